@@ -1,0 +1,4 @@
+pub mod Marks
+pub mod Sides
+pub mod Ends
+pub mod Narrowed

@@ -1,0 +1,110 @@
+// A side of a window, earliest or latest: all that differs between the two stands here.
+use crate::end::End;
+use crate::end::Ends;
+use crate::gap::Gap;
+use crate::gap::Way;
+ghost use mathlib.Core.Path.{_≡_};
+ghost use lib.IntN.{pos};
+ghost use Rattle.bounds.specs.Sides.{Side as Which, other, earliest, latest, tighter, carry, Lawful};
+ghost use Rattle.bounds.specs.Ends.{loosest, end-of, with-end};
+
+pub trait Side {
+    // which side of the definitions this is
+    ghost which: { Which };
+
+    law lawful: { Lawful which };
+
+    // No end of a plan is looser.
+    const LOOSEST: End;
+
+    // That end, as a fresh view begins with it.
+    fn fresh() -> End
+        ensures { λ r. ⌜ r ≡ loosest which ⌝ };
+
+    // Whether a is strictly tighter than b.
+    fn is_tighter(a: i64, b: i64) -> bool
+        ensures { λ r. ⌜ r ≡ tighter which a b ⌝ };
+
+    // The minute that a rule carries over. (A carried minute lies near an end's, so the sum cannot leave an i64.)
+    fn carry(minute: u32, gap: Gap, way: Way) -> i64
+        ensures { λ r. ⌜ r ≡ carry which gap way (pos minute) ⌝ };
+
+    fn of(ends: Ends) -> End
+        ensures { λ r. ⌜ r ≡ end-of which ends ⌝ };
+
+    fn opposite(ends: Ends) -> End
+        ensures { λ r. ⌜ r ≡ end-of (other which) ends ⌝ };
+
+    fn with(ends: Ends, end: End) -> Ends
+        ensures { λ r. ⌜ r ≡ with-end which ends end ⌝ };
+}
+
+pub struct Earliest;
+
+pub struct Latest;
+
+pub impl Side for Earliest as EarliestSide {
+    ghost which = { earliest };
+
+    const LOOSEST: End = End { minute: 0, links: 0 };
+
+    fn fresh() -> End {
+        Self::LOOSEST
+    }
+
+    fn is_tighter(a: i64, b: i64) -> bool {
+        a > b
+    }
+
+    fn carry(minute: u32, gap: Gap, way: Way) -> i64 {
+        match way {
+            Way::Back => i64::from(minute) - i64::from(gap.most),
+            Way::Ahead => i64::from(minute) + i64::from(gap.least),
+        }
+    }
+
+    fn of(ends: Ends) -> End {
+        ends.earliest
+    }
+
+    fn opposite(ends: Ends) -> End {
+        ends.latest
+    }
+
+    fn with(ends: Ends, end: End) -> Ends {
+        Ends { earliest: end, latest: ends.latest }
+    }
+}
+
+pub impl Side for Latest as LatestSide {
+    ghost which = { latest };
+
+    const LOOSEST: End = End { minute: 527_040, links: 0 };
+
+    fn fresh() -> End {
+        Self::LOOSEST
+    }
+
+    fn is_tighter(a: i64, b: i64) -> bool {
+        a < b
+    }
+
+    fn carry(minute: u32, gap: Gap, way: Way) -> i64 {
+        match way {
+            Way::Back => i64::from(minute) - i64::from(gap.least),
+            Way::Ahead => i64::from(minute) + i64::from(gap.most),
+        }
+    }
+
+    fn of(ends: Ends) -> End {
+        ends.latest
+    }
+
+    fn opposite(ends: Ends) -> End {
+        ends.earliest
+    }
+
+    fn with(ends: Ends, end: End) -> Ends {
+        Ends { earliest: ends.earliest, latest: end }
+    }
+}
