@@ -65,6 +65,17 @@ pub within-other : (s : Side) (a b : Minute) → Within s a b → Within (other 
 within-other earliest a b h = h
 within-other latest a b h = h
 
+pub other-within : (s : Side) (a b : Minute) → Within (other s) a b → Within s b a
+other-within earliest a b h = h
+other-within latest a b h = h
+
+-- the minutes of a plan are in the order of their numbers
+pub minutes-ordered : (a b : ℕ) → a ≤ b → minute a ≤ℤ minute b
+minutes-ordered a b h = omega (arith, ints)
+
+pub numbers-ordered : (a b : ℕ) → minute a ≤ℤ minute b → a ≤ b
+numbers-ordered a b h = omega (arith, ints)
+
 -- ---- carrying
 
 pub carry-mono : (s : Side) (g : Gap) (w : Way) (a b : Minute) → Within s a b → Within s (carry s g w a) (carry s g w b)
@@ -72,6 +83,11 @@ carry-mono earliest g Back a b h = omega (arith, ints)
 carry-mono earliest g Ahead a b h = omega (arith, ints)
 carry-mono latest g Back a b h = omega (arith, ints)
 carry-mono latest g Ahead a b h = omega (arith, ints)
+
+-- where a rule carries nothing tighter either way, it holds
+pub fixed-meets : (s : Side) (g : Gap) (from to : Minute) → Within s (carry s g Ahead from) to → Within s (carry s g Back to) from → Meets g from to
+fixed-meets earliest g from to h k = (omega (arith, ints), omega (arith, ints))
+fixed-meets latest g from to h k = (omega (arith, ints), omega (arith, ints))
 
 -- a carried minute that is tighter than one minute of the plan and does not pass another is itself a minute of the plan
 pub between-minutes : (s : Side) (m : Minute) (a b : ℕ) → Tighter s m (minute a) → Within s m (minute b) → minute (natAbs m) ≡ m
@@ -126,4 +142,5 @@ lawful s =
       loosest = loosest-within s;
       bounds = λ v m. (within-slack s v m, slack-within s v m);
       nearer = slack-tighter s;
-      carried = slack-carry s }
+      carried = slack-carry s;
+    }

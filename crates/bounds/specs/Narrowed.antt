@@ -17,6 +17,6 @@ abbrev pub narrowed : Side → ℕ → End → End → Carried → Narrowing
 narrowed s events held opposite c =
     cond (tighter s (c .minute) (lies held))
     (cond (tighter s (c .minute) (lies opposite)) (Barred Crossed)
-     (cond (leb events (c .links)) (Barred Cycle)
-      (Moved (record { minute = natAbs (c .minute); links = c .links }))))
+    (cond (leb events (c .links)) (Barred Cycle)
+    (Moved (record { minute = natAbs (c .minute); links = c .links }))))
     Dropped

@@ -2,7 +2,7 @@
 ghost use mathlib.Core.Path.{_≡_};
 ghost use Rattle.bounds.specs.Marks.{cause-number};
 
-#[derive(Clone, Copy, PartialEq, Eq, Debug)]
+#[derive(Clone, Copy, PartialEq, Eq)]
 pub enum Cause {
     // a carried end passed the other end of its event
     Crossed,
@@ -21,7 +21,7 @@ impl Cause {
     }
 }
 
-#[derive(Clone, Copy, PartialEq, Eq, Debug)]
+#[derive(Clone, Copy)]
 pub struct Bar {
     pub cause: Cause,
     pub event: u8,

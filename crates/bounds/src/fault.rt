@@ -2,10 +2,8 @@
 use crate::bar::Bar;
 ghost use mathlib.Core.Path.{_≡_};
 ghost use Rattle.bounds.specs.Marks.{Mark, line-mark, plan-mark, stream-mark};
-use crate::bar::BarDebug;
-use crate::bar::BarPartialEq;
 
-#[derive(Clone, Copy, PartialEq, Eq, Debug)]
+#[derive(Clone, Copy)]
 pub enum LineFault {
     // no place is free for a letter of this view
     Full(u8),
@@ -15,7 +13,7 @@ pub enum LineFault {
     Waiting,
 }
 
-#[derive(Clone, Copy, PartialEq, Eq, Debug)]
+#[derive(Clone, Copy)]
 pub enum PlanFault {
     NoRoom(u8),
     BadWindow,
@@ -44,7 +42,7 @@ pub enum PlanFault {
 }
 
 // The place of a case that holds a byte is the command's byte.
-#[derive(Clone, Copy, PartialEq, Eq, Debug)]
+#[derive(Clone, Copy)]
 pub enum StreamFault {
     UnknownCommand(u8),
     MissingOperands(u8),
@@ -167,7 +165,9 @@ pub impl Refusal for StreamFault as StreamFaultRefusal {
 
     fn place(&self) -> u8 {
         match self {
-            StreamFault::UnknownCommand(byte) | StreamFault::MissingOperands(byte) | StreamFault::WrongState(byte) => *byte,
+            StreamFault::UnknownCommand(byte)
+            | StreamFault::MissingOperands(byte)
+            | StreamFault::WrongState(byte) => *byte,
             StreamFault::Plan(fault) => fault.place(),
         }
     }

@@ -9,13 +9,9 @@ ghost use mathlib.Core.Path.{_≡_};
 ghost use Rattle.bounds.specs.Sides.{tighter};
 ghost use Rattle.bounds.specs.Ends.{lies, carried, join, Join};
 ghost use Rattle.bounds.specs.Narrowed.{narrowed};
-use crate::bar::CauseDebug;
-use crate::bar::CausePartialEq;
-use crate::end::EndDebug;
-use crate::end::EndPartialEq;
 
 // What became of an end against a carried one.
-#[derive(Clone, Copy, PartialEq, Eq, Debug)]
+#[derive(Clone, Copy)]
 pub enum Narrowing {
     // the carried end is not strictly tighter
     Dropped,
@@ -35,7 +31,10 @@ pub fn carry<S: Side>(end: End, gap: Gap, way: Way) -> Carried
     ensures { λ r. ⌜ r ≡ carried (S·Side .which) gap way end ⌝ }
 {
     let minute = S::carry(end.minute, gap, way);
-    Carried { minute, links: u16::from(end.links) + 1 }
+    Carried {
+        minute,
+        links: u16::from(end.links) + 1,
+    }
 }
 
 // The tighter of two ends, and of equal minutes the one over fewer links.
@@ -63,5 +62,8 @@ pub fn replace<S: Side>(held: End, opposite: End, carried: Carried, events: u8) 
     if carried.links >= u16::from(events) {
         return Narrowing::Barred(Cause::Cycle);
     }
-    Narrowing::Moved(End { minute: carried.minute as u32, links: carried.links as u8 })
+    Narrowing::Moved(End {
+        minute: carried.minute as u32,
+        links: carried.links as u8,
+    })
 }

@@ -46,7 +46,10 @@ pub struct Latest;
 pub impl Side for Earliest as EarliestSide {
     ghost which = { earliest };
 
-    const LOOSEST: End = End { minute: 0, links: 0 };
+    const LOOSEST: End = End {
+        minute: 0,
+        links: 0,
+    };
 
     fn fresh() -> End {
         Self::LOOSEST
@@ -72,14 +75,20 @@ pub impl Side for Earliest as EarliestSide {
     }
 
     fn with(ends: Ends, end: End) -> Ends {
-        Ends { earliest: end, latest: ends.latest }
+        Ends {
+            earliest: end,
+            latest: ends.latest,
+        }
     }
 }
 
 pub impl Side for Latest as LatestSide {
     ghost which = { latest };
 
-    const LOOSEST: End = End { minute: 527_040, links: 0 };
+    const LOOSEST: End = End {
+        minute: 527_040,
+        links: 0,
+    };
 
     fn fresh() -> End {
         Self::LOOSEST
@@ -105,6 +114,9 @@ pub impl Side for Latest as LatestSide {
     }
 
     fn with(ends: Ends, end: End) -> Ends {
-        Ends { earliest: ends.earliest, latest: end }
+        Ends {
+            earliest: ends.earliest,
+            latest: end,
+        }
     }
 }

@@ -1,0 +1,17 @@
+pub mod Pigeon
+pub mod Lineages
+pub mod Lattice
+pub mod Held
+pub mod Narrowings
+pub mod Revisions
+pub mod Sweeps
+pub mod Central
+pub mod Entries
+pub mod Borders
+pub mod Firsts
+pub mod Written
+pub mod Steps
+pub mod Going
+pub mod Schedules
+pub mod Sounds
+pub mod Solving

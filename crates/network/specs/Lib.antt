@@ -1,5 +1,11 @@
 pub mod Nets
+pub mod Rows
+pub mod Plans
+pub mod Drafts
 pub mod Revised
 pub mod Rounds
 pub mod Lineage
 pub mod Decided
+pub mod Checks
+pub mod Solved
+pub mod Worked

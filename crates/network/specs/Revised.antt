@@ -21,8 +21,9 @@ noted s v (Barred cause) = record { ends = v .ends; moves = v .moves; bar = Some
 abbrev pub one-side : Side → ℕ → Gap → Way → Ends → Revision → Revision
 one-side s events g w from v =
     elim (v .bar) [
-      Some cause ↦ v
-    | None ↦ noted s v (narrowed s events (end-of s (v .ends)) (end-of (other s) (v .ends)) (carried s g w (end-of s from))) ]
+      | Some cause ↦ v
+      | None ↦ noted s v (narrowed s events (end-of s (v .ends)) (end-of (other s) (v .ends)) (carried s g w (end-of s from)))
+    ]
 
 -- the earliest end, then the latest
 abbrev pub revised : ℕ → Gap → Way → Ends → Ends → Revision

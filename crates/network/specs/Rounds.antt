@@ -34,14 +34,16 @@ noted-at x s v =
     record {
       table = set (s .table) x (v .ends);
       moves = s .moves + v .moves;
-      bar = mapped (λ cause. record { cause = cause; event = x }) (v .bar) }
+      bar = mapped (λ cause. record { cause = cause; event = x }) (v .bar);
+    }
 
 -- one rule on one way, unless the plan is barred
 abbrev pub step : ℕ → Rule → Way → Sweep → Sweep
 step events r w s =
     elim (s .bar) [
-      Some bar ↦ s
-    | None ↦ noted-at (enters r w) s (revised events (r .gap) w (held (s .table) (enters r w)) (held (s .table) (leaves r w))) ]
+      | Some bar ↦ s
+      | None ↦ noted-at (enters r w) s (revised events (r .gap) w (held (s .table) (enters r w)) (held (s .table) (leaves r w)))
+    ]
 
 -- a round: all rules in order, each revising its from event, then its to event
 abbrev pub sweep : ℕ → List Rule → Sweep → Sweep
@@ -61,8 +63,9 @@ pub record Answer : Type 0 where
 abbrev pub after : ℕ → Sweep → Answer → Answer
 after done s more =
     elim (s .bar) [
-      Some bar ↦ record { rounds = done; table = s .table; bar = Some bar }
-    | None ↦ cond (eqb (s .moves) 0) (record { rounds = done; table = s .table; bar = None }) more ]
+      | Some bar ↦ record { rounds = done; table = s .table; bar = Some bar }
+      | None ↦ cond (eqb (s .moves) 0) (record { rounds = done; table = s .table; bar = None }) more
+    ]
 
 -- rounds until one moves nothing or bars, at most as many as the first number allows; so many are done
 abbrev pub rounds : ℕ → ℕ → List Rule → ℕ → List Ends → Answer

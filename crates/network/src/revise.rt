@@ -1,10 +1,6 @@
 // One event against a source by a rule: the step that the central rounds and a room's work are made of.
 use bounds::bar::Cause;
-use bounds::bar::CauseDebug;
-use bounds::bar::CausePartialEq;
 use bounds::end::Ends;
-use bounds::end::EndsDebug;
-use bounds::end::EndsPartialEq;
 use bounds::gap::Gap;
 use bounds::gap::Way;
 use bounds::narrow::Narrowing;
@@ -20,7 +16,7 @@ ghost use Prim.Native.Nat.{_<_};
 ghost use Rattle.network.specs.Revised.{revised, one-side};
 
 // What became of an event: its ends, how many of them moved, and why the plan is barred, if it is.
-#[derive(Clone, Copy, PartialEq, Eq, Debug)]
+#[derive(Clone, Copy)]
 pub struct Revision {
     pub ends: Ends,
     pub moves: u8,
@@ -32,7 +28,11 @@ pub struct Revision {
 pub fn revise(held: Ends, source: Ends, gap: Gap, way: Way, events: u8) -> Revision
     ensures { λ r. ⌜ r ≡ revised events gap way held source ⌝ }
 {
-    let begun = Revision { ends: held, moves: 0, bar: None };
+    let begun = Revision {
+        ends: held,
+        moves: 0,
+        bar: None,
+    };
     let half = narrow_side::<Earliest>(begun, source, gap, way, events);
     narrow_side::<Latest>(half, source, gap, way, events)
 }
@@ -48,7 +48,15 @@ fn narrow_side<S: Side>(so_far: Revision, source: Ends, gap: Gap, way: Way, even
     let carried = carry::<S>(S::of(source), gap, way);
     match replace::<S>(S::of(ends), S::opposite(ends), carried, events) {
         Narrowing::Dropped => so_far,
-        Narrowing::Moved(end) => Revision { ends: S::with(ends, end), moves: so_far.moves + 1, bar: None },
-        Narrowing::Barred(cause) => Revision { ends, moves: so_far.moves, bar: Some(cause) },
+        Narrowing::Moved(end) => Revision {
+            ends: S::with(ends, end),
+            moves: so_far.moves + 1,
+            bar: None,
+        },
+        Narrowing::Barred(cause) => Revision {
+            ends,
+            moves: so_far.moves,
+            bar: Some(cause),
+        },
     }
 }
