@@ -1,11 +1,14 @@
-// A side of a window, earliest or latest: all that differs between the two stands here.
+// A side of a window: all that differs between earliest and latest stands in its two implementations.
+pub mod earliest;
+pub mod latest;
+
 use crate::end::End;
 use crate::end::Ends;
 use crate::gap::Gap;
 use crate::gap::Way;
 ghost use mathlib.Core.Path.{_≡_};
 ghost use lib.IntN.{pos};
-ghost use Rattle.bounds.specs.Sides.{Side as Which, other, earliest, latest, tighter, carry, Lawful};
+ghost use Rattle.bounds.specs.Sides.{Side as Which, other, tighter, carry, Lawful};
 ghost use Rattle.bounds.specs.Ends.{loosest, end-of, with-end};
 
 pub trait Side {
@@ -37,86 +40,4 @@ pub trait Side {
 
     fn with(ends: Ends, end: End) -> Ends
         ensures { λ r. ⌜ r ≡ with-end which ends end ⌝ };
-}
-
-pub struct Earliest;
-
-pub struct Latest;
-
-pub impl Side for Earliest as EarliestSide {
-    ghost which = { earliest };
-
-    const LOOSEST: End = End {
-        minute: 0,
-        links: 0,
-    };
-
-    fn fresh() -> End {
-        Self::LOOSEST
-    }
-
-    fn is_tighter(a: i64, b: i64) -> bool {
-        a > b
-    }
-
-    fn carry(minute: u32, gap: Gap, way: Way) -> i64 {
-        match way {
-            Way::Back => i64::from(minute) - i64::from(gap.most),
-            Way::Ahead => i64::from(minute) + i64::from(gap.least),
-        }
-    }
-
-    fn of(ends: Ends) -> End {
-        ends.earliest
-    }
-
-    fn opposite(ends: Ends) -> End {
-        ends.latest
-    }
-
-    fn with(ends: Ends, end: End) -> Ends {
-        Ends {
-            earliest: end,
-            latest: ends.latest,
-        }
-    }
-}
-
-pub impl Side for Latest as LatestSide {
-    ghost which = { latest };
-
-    const LOOSEST: End = End {
-        minute: 527_040,
-        links: 0,
-    };
-
-    fn fresh() -> End {
-        Self::LOOSEST
-    }
-
-    fn is_tighter(a: i64, b: i64) -> bool {
-        a < b
-    }
-
-    fn carry(minute: u32, gap: Gap, way: Way) -> i64 {
-        match way {
-            Way::Back => i64::from(minute) - i64::from(gap.least),
-            Way::Ahead => i64::from(minute) + i64::from(gap.most),
-        }
-    }
-
-    fn of(ends: Ends) -> End {
-        ends.latest
-    }
-
-    fn opposite(ends: Ends) -> End {
-        ends.earliest
-    }
-
-    fn with(ends: Ends, end: End) -> Ends {
-        Ends {
-            earliest: ends.earliest,
-            latest: end,
-        }
-    }
 }
