@@ -1,4 +1,6 @@
 // Solving the day, and choosing a minute for each event.
+use crate::clock::Clock;
+use crate::clock::ClockDisplay;
 use crate::day::EMMER_ARRIVES;
 use crate::day::EMMER_SEALED;
 use crate::day::EVENTS;
@@ -77,9 +79,20 @@ pub fn show_choices(rt: &LibcRuntime, draft: &Draft, windows: &Windows) -> io::R
 
 fn show_check(rt: &LibcRuntime, draft: &Draft, minutes: &Minutes) -> io::Result<()> {
     match check(draft, minutes) {
-        Ok(()) => println!(rt, "  This is a schedule."),
+        Ok(()) => show_minutes(rt, minutes),
         Err(fault) => refusals::show(rt, &fault),
     }
+}
+
+// The minutes of an accepted choice, so that a reader can hold them to the windows.
+fn show_minutes(rt: &LibcRuntime, minutes: &Minutes) -> io::Result<()> {
+    println!(rt, "  This is a schedule.")?;
+    for (row, minute) in ROWS.iter().zip(minutes) {
+        let (lot, step, _, _, _) = *row;
+        let time = Clock(*minute);
+        println!(rt, "    {lot:<12}  {step:<16}  {time}")?;
+    }
+    Ok(())
 }
 
 fn minutes_of(windows: &Windows, choice: Choice) -> Minutes {
