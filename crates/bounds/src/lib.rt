@@ -1,4 +1,6 @@
 // Ends of windows, the two sides that compare and carry them, and the refusals of every layer.
+#![tactic(auto)]
+
 pub mod bar;
 pub mod end;
 pub mod fault;

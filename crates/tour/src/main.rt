@@ -1,4 +1,6 @@
 // A seed bank's two days with three lots, from the first entry to the last schedule.
+#![tactic(auto)]
+
 use crate::choosing::{show_choices, show_windows};
 use crate::drafting::{draft_day, show_counts, show_day, show_slips};
 use crate::rules::LONGEST_WAIT;

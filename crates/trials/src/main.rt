@@ -1,4 +1,6 @@
 // Trials of the network: hand cases with known answers, then random plans against Bellman and Ford.
+#![tactic(auto)]
+
 use crate::compare::trial;
 use crate::hand::{Case, play};
 use crate::tally::Tally;
