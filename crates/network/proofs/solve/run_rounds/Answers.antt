@@ -12,19 +12,19 @@ use Rattle.network.proofs.solve.run_rounds.Goals as goal
 sized : (c : goal.After-rules-rules) → length c.args.ends.now ≡ count (net c.args.draft.now)
 sized c = ap length c.requires ∙ length-map (net c.args.draft.now).events given_ends
 
-pub overflow-cast-events : goal.overflow-cast-events
-overflow-cast-events c = let d = c.args.draft.now in omega (arith, sized c, d.few_events, d.events.ok.0)
+pub overflow_cast-events : goal.overflow_cast-events
+overflow_cast-events c = let d = c.args.draft.now in omega (arith, sized c, d.few_events, d.events.ok.0)
 
 pub loop-rounds-init : goal.loop-rounds-init
 loop-rounds-init c = let N = net c.args.draft.now in subst (Going N 1) (sym c.requires) (going_start N (draft_sound c.args.draft.now))
 
-pub returns-in-err-sweep : goal.returns-in-err-sweep
-returns-in-err-sweep c =
-    let p = err_from_is_err_and c.from-residual.result c.from-residual.ensures.1 in
+pub returns-in_err-sweep : goal.returns-in_err-sweep
+returns-in_err-sweep c =
+    let p = err_from_is_err_and c.from_residual.result c.from_residual.ensures.1 in
     let N = net c.args.draft.now in
     let l = c.loop-rounds in
     let n = ap length c.requires ∙ length-map N.events given_ends in
-    let e = ap (λ s. s.bar) (sym (sweep_read N _ _ l.ends n c.rules-rules.ensures)) ∙ c.in-err-sweep.ensures in
+    let e = ap (λ s. s.bar) (sym (sweep_read N _ _ l.ends n c.rules-rules.ensures)) ∙ c.in_err-sweep.ensures in
     rw (p.1, p.2) (going_barred N (draft_sound c.args.draft.now) l.rounds l.ends l.invariant _ e)
 
 -- a round that moved an end is not the last
@@ -33,8 +33,8 @@ turn c =
     let N = net c.args.draft.now in
     let l = c.loop-rounds in
     let n = ap length c.requires ∙ length-map N.events given_ends in
-    let e = sym (sweep_read N _ _ l.ends n c.rules-rules.ensures) ∙ c.in-ok-sweep.ensures in
-    going_on N (draft_sound c.args.draft.now) l.rounds l.ends l.invariant c.sweep.new.ends c.in-ok-sweep.field-0 e (λ none. let some = c.if-branch-gt0.true in omega (arith, some))
+    let e = sym (sweep_read N _ _ l.ends n c.rules-rules.ensures) ∙ c.in_ok-sweep.ensures in
+    going_on N (draft_sound c.args.draft.now) l.rounds l.ends l.invariant c.sweep.new.ends c.in_ok-sweep.field-0 e (λ none. let some = c.if-branch-gt0.true in omega (arith, some))
 
 pub loop-rounds-smaller : goal.loop-rounds-smaller
 loop-rounds-smaller c = let k = (turn c).0 in omega (arith, k)
@@ -47,5 +47,5 @@ returns c =
     let N = net c.args.draft.now in
     let l = c.loop-rounds in
     let n = ap length c.requires ∙ length-map N.events given_ends in
-    let e = sym (sweep_read N _ _ l.ends n c.rules-rules.ensures) ∙ c.in-ok-sweep.ensures in
-    going_done N (draft_sound c.args.draft.now) l.rounds l.ends l.invariant c.sweep.new.ends c.in-ok-sweep.field-0 e (omega (arith, c.if-branch-gt0.false))
+    let e = sym (sweep_read N _ _ l.ends n c.rules-rules.ensures) ∙ c.in_ok-sweep.ensures in
+    going_done N (draft_sound c.args.draft.now) l.rounds l.ends l.invariant c.sweep.new.ends c.in_ok-sweep.field-0 e (omega (arith, c.if-branch-gt0.false))

@@ -5,11 +5,11 @@ use Rattle.network.specs.Rows.{placed}
 use Rattle.network.proofs.Entries.{rows_event, draft_rows}
 use Rattle.network.proofs.draft.Draft.add_event.Goals as goal
 
-pub invariant-of-self : goal.invariant-of-self
-invariant-of-self c =
+pub invariant_of-self : goal.invariant_of-self
+invariant_of-self c =
     let d = c.args.self.now in
     let P = plan d in
     let e = c.args.event in
     let here : placed e ≡ true = and_from _ _ (lt-ltb e.room 8 (omega arith)) (and_from _ _ (le-leb e.earliest e.latest (omega arith)) (le-leb e.latest 527040 (omega arith))) in
-    let new = rows_event P.events _ P.rules P.views e c.push-reserved.ensures.items here (draft_rows d) in
-    (omega arith, (d.few_rules, (d.few_views, (omega arith, (d.room_for_rules, (d.room_for_views, (new.events, (new.rules, (new.views, (new.borders, tt))))))))))
+    let new = rows_event P.events _ P.rules P.views e c.push_reserved.ensures.items here (draft_rows d) in
+    record { few_events = omega arith; few_rules = d.few_rules; few_views = d.few_views; room_for_events = omega arith; room_for_rules = d.room_for_rules; room_for_views = d.room_for_views; events_pass = new.events; rules_pass = new.rules; views_pass = new.views; borders_pass = new.borders }
