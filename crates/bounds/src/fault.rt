@@ -4,7 +4,7 @@ ghost use Rattle.bounds.specs.Marks.{Mark, line_mark, plan_mark, stream_mark};
 
 use crate::bar::Bar;
 
-#[derive(Clone, Copy)]
+#[derive(Clone, Copy, Debug)]
 pub enum LineFault {
     // no place is free for a letter of this view
     Full(u8),
@@ -14,7 +14,7 @@ pub enum LineFault {
     Waiting,
 }
 
-#[derive(Clone, Copy)]
+#[derive(Clone, Copy, Debug)]
 pub enum PlanFault {
     NoRoom(u8),
     BadWindow,
@@ -43,7 +43,7 @@ pub enum PlanFault {
 }
 
 // The place of a case that holds a byte is the command's byte.
-#[derive(Clone, Copy)]
+#[derive(Clone, Copy, Debug)]
 pub enum StreamFault {
     UnknownCommand(u8),
     MissingOperands(u8),

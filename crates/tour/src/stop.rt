@@ -4,7 +4,7 @@ use bounds::fault::PlanFault;
 use std::alloc::AllocError;
 use std::io;
 
-#[derive(Drop)]
+#[derive(Debug, Drop)]
 pub enum Stop {
     Memory,
     Output,

@@ -2,7 +2,7 @@
 use std::alloc::AllocError;
 use std::io;
 
-#[derive(Drop)]
+#[derive(Debug, Drop)]
 pub enum Trouble {
     Memory,
     Output,
