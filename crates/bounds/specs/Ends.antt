@@ -1,5 +1,5 @@
 -- Ends and their join.
-use Rattle.std.specs.Prelude.{◌≡◌, ℕ, suc, ◌≤◌, Bool, cond, ◌&&◌, ◌||◌, ◌⊎◌, ◌==◌, nat_lt}
+use Rattle.std.specs.Prelude.{◌≡◌, suc, ◌≤◌, Bool, cond, ◌&&◌, ◌||◌, ◌⊎◌, ◌==◌, nat_lt}
 use Rattle.bounds.specs.Sides.{Side, earliest, latest, Minute, minute, loosest_minute, tighter, Within, carry}
 use Rattle.bounds.specs.declared.end.End.{End}
 use Rattle.bounds.specs.declared.end.Ends.{Ends}

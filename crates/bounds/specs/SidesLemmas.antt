@@ -1,7 +1,6 @@
 -- The laws of a side: each by its two cases and a rule's two ways. All that is proved above rests on these alone.
-use Rattle.std.specs.Prelude.{◌≡◌, ℕ, ◌^◌, ◌<◌, ◌≤◌, true, false, ◌⊎◌, ℤ, pos, negsuc, ◌≤ℤ◌, ◌<ℤ◌, unsigned_abs, refl}
+use Rattle.std.specs.Prelude.{◌≡◌, ℕ, ◌≤◌, true, false, ◌⊎◌, pos, negsuc, ◌≤ℤ◌, ◌<ℤ◌, unsigned_abs, refl}
 use Rattle.std.proofs.Common.{inl, inr, arith}
-use Rattle.std.specs.Int.Signed.{lt_z}
 use Rattle.std.proofs.lemmas.Int.{ints, by_lt_z}
 use Rattle.bounds.specs.Sides.{Side, earliest, latest, other, Minute, minute, last_minute, loosest_minute, Tighter, tighter, Within, carry, Meets, source, target, slack, Lawful}
 use Rattle.bounds.specs.declared.gap.Gap.{Gap}

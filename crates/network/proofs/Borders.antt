@@ -1,9 +1,9 @@
 -- The views that a rule between two rooms needs, and what an accepted rule has passed.
-use Rattle.std.proofs.Common.{◌≡◌, ℕ, suc, ◌+◌, ◌<◌, ◌≤◌, Bool, true, false, cond, not, ◌&&◌, ◌||◌, eqb, ltb, leb, ◌⊎◌, List, [], ◌∷◌, ◌++◌, length, get_or, Some, None, sym, refl, ap, ◌∙◌, subst, inl, inr, ⊎_elim, arith}
+use Rattle.std.proofs.Common.{◌≡◌, ℕ, ◌+◌, ◌<◌, ◌≤◌, Bool, true, false, cond, ◌&&◌, ◌||◌, eqb, List, [], ◌∷◌, ◌++◌, length, Some, None, sym, refl, ap, ◌∙◌, subst, ⊎_elim, arith}
 use Rattle.std.specs.List.{AllByRecursion as All}
 use Rattle.std.proofs.lemmas.List.{length_push}
-use Rattle.std.proofs.lemmas.Bool.{true≢false, false≢true, not-true, not_from_false, and_parts, and_from, and_left, or_cases, or_left, or_right, ltb-true, lt-ltb, leb-true, eq-eqb, ne_eqb, eqb-false, cases_Bool}
-use Rattle.network.specs.Rows.{joins, room_of, lived, shows, abroad, bordered}
+use Rattle.std.proofs.lemmas.Bool.{not-true, not_from_false, and_from, and_left, or_left, or_right, ltb-true, lt-ltb, leb-true, eq-eqb, ne_eqb, eqb-false, cases_Bool}
+use Rattle.network.specs.Rows.{joins, room_of, shows, abroad, bordered}
 use Rattle.network.specs.Plans.{Plan, Question, first_no, with_view, with_views, rule_questions}
 use Rattle.network.specs.declared.tables.Event.{Event}
 use Rattle.network.specs.declared.tables.Rule.{Rule}

@@ -1,17 +1,15 @@
 -- When a list of minutes passes the check.
-use Rattle.std.proofs.Common.{◌≡◌, ℕ, zero, suc, ◌+◌, ◌<◌, ◌≤◌, Bool, true, false, cond, leb, ◌↔◌, List, [], ◌∷◌, length, get_or, ℤ, ◌≤ℤ◌, Some, None, Option, sym, refl, ap, ◌∙◌, subst, ⊎_elim, zero-add, arith}
+use Rattle.std.proofs.Common.{◌≡◌, ℕ, ◌+◌, ◌<◌, ◌≤◌, true, false, cond, leb, ◌↔◌, List, length, get_or, ℤ, ◌≤ℤ◌, Some, None, Option, sym, refl, ap, ◌∙◌, subst, ⊎_elim, zero-add, arith}
 use lib.Signed.{le_z}
-use Rattle.std.specs.List.{ContainsAt as Has}
 use Rattle.std.proofs.lemmas.List.{get_or_default}
 use Rattle.std.proofs.lemmas.Int.{ints}
 use Rattle.std.proofs.ByRecursion.{has_get_or}
 use Rattle.std.proofs.lemmas.Bool.{false≢true, and_parts, and_from, leb-true, le-leb, cond-true, cond-false, cases_Bool}
 use Rattle.bounds.specs.Sides.{Meets, minute}
 use Rattle.bounds.specs.declared.fault.PlanFault.{PlanFault}
-use Rattle.bounds.specs.declared.fault.PlanFault.TheVariants.{TooFewPlaces, OutsideWindow, RuleBroken}
+use Rattle.bounds.specs.declared.fault.PlanFault.TheVariants.{TooFewPlaces, OutsideWindow}
 use Rattle.network.specs.Nets.{Net, count, event, Schedule}
 use Rattle.network.specs.Checks.{first_failing, in_window, kept, rule_refusal, event_refusal, check_refusal}
-use Rattle.network.specs.declared.tables.Event.{Event}
 use Rattle.network.specs.declared.tables.Rule.{Rule}
 use Rattle.network.proofs.Firsts.{none_fails, all_pass}
 

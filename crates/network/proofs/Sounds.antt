@@ -1,8 +1,8 @@
 -- The rows of a draft make a sound network.
-use Rattle.std.proofs.Common.{◌≡◌, ℕ, ◌<◌, ◌≤◌, true, ltb, List, length, get_or, subst}
-use Rattle.std.proofs.lemmas.Bool.{and_parts, ltb-true, leb-true}
+use Rattle.std.proofs.Common.{◌≡◌, ℕ, ◌<◌, true, ltb, List, length, get_or, subst}
+use Rattle.std.proofs.lemmas.Bool.{and_parts, leb-true}
 use Rattle.bounds.specs.declared.gap.Way.TheVariants.{Ahead}
-use Rattle.network.specs.Nets.{Net, count, event, Sound}
+use Rattle.network.specs.Nets.{event, Sound}
 use Rattle.network.specs.Drafts.{net}
 use Rattle.network.specs.Rows.{Pass, placed, opens, joins}
 use Rattle.network.specs.declared.draft.Draft.{Draft}

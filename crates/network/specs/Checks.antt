@@ -1,5 +1,5 @@
 -- Whether a list of minutes is a schedule, and if not, where it first fails.
-use Rattle.std.specs.Prelude.{◌≡◌, ℕ, suc, ◌≤◌, Bool, true, cond, ◌&&◌, ◌↔◌, List, [], ◌∷◌, length, ◌-ℤ◌, Some, None, Option, int_le, nat_le, slice_index}
+use Rattle.std.specs.Prelude.{ℕ, suc, Bool, cond, ◌&&◌, List, [], ◌∷◌, length, ◌-ℤ◌, Some, None, Option, int_le, nat_le, slice_index}
 use Rattle.bounds.specs.Sides.{minute}
 use Rattle.bounds.specs.declared.fault.PlanFault.{PlanFault}
 use Rattle.bounds.specs.declared.fault.PlanFault.TheVariants.{TooFewPlaces, OutsideWindow, RuleBroken}

@@ -1,7 +1,7 @@
 -- Where ends come from: walks of carried minutes, lineages, and what tables of held ends keep.
 use Rattle.std.specs.Prelude.{◌≡◌, ℕ, suc, ◌<◌, ◌≤◌, List, [], ◌∷◌, length}
 use Rattle.std.specs.List.{ContainsAt as Has, AllByRecursion as All}
-use Rattle.bounds.specs.Sides.{Side, earliest, latest, Minute, carry, Tighter, Within}
+use Rattle.bounds.specs.Sides.{Side, Minute, carry, Tighter, Within}
 use Rattle.bounds.specs.Ends.{lies, end_of}
 use Rattle.bounds.specs.declared.end.End.{End}
 use Rattle.bounds.specs.declared.end.Ends.{Ends}

@@ -1,5 +1,5 @@
 -- What the central call answers, and what it leaves in the caller's list.
-use Rattle.std.specs.Prelude.{◌≡◌, ℕ, ◌<◌, ◌≤◌, cond, ◌↔◌, List, ◌++◌, map, length, drop, Some, None, Ok, Err, Result, nat_le, slice_index_or}
+use Rattle.std.specs.Prelude.{ℕ, ◌<◌, ◌≤◌, cond, ◌↔◌, List, ◌++◌, map, length, drop, Some, None, Ok, Err, Result, nat_le, slice_index_or}
 use Rattle.bounds.specs.declared.end.Ends.{Ends}
 use Rattle.bounds.specs.declared.fault.PlanFault.{PlanFault}
 use Rattle.bounds.specs.declared.fault.PlanFault.TheVariants.{TooFewPlaces, NoSchedule}

@@ -1,4 +1,4 @@
-use Rattle.std.proofs.Common.{◌≡◌, sym, ◌∙◌}
+use Rattle.std.proofs.Common.{sym, ◌∙◌}
 use Rattle.network.specs.Checks.{kept}
 use Rattle.network.proofs.Firsts.{first_on, first_here, first_none}
 use Rattle.network.proofs.check.first_broken.Goals as goal

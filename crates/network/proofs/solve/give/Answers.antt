@@ -1,4 +1,4 @@
-use Rattle.std.proofs.Common.{◌++◌, map, length, sym, ap, ◌∙◌, arith}
+use Rattle.std.proofs.Common.{◌++◌, map, length, ap, ◌∙◌, arith}
 use Rattle.std.proofs.lemmas.List.{append-nil, drop_all}
 use Rattle.bounds.specs.Ends.{loosest}
 use Rattle.bounds.specs.Sides.{earliest, latest}

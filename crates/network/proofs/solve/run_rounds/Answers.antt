@@ -3,7 +3,7 @@ use Rattle.std.proofs.lemmas.List.{length-map}
 use Rattle.std.proofs.lemmas.Result.{err_from_is_err_and}
 use Rattle.network.specs.Drafts.{net}
 use Rattle.network.specs.Nets.{count}
-use Rattle.network.specs.Rounds.{Sweep, sweep, begun, given_ends}
+use Rattle.network.specs.Rounds.{given_ends}
 use Rattle.network.proofs.Going.{Going, going_start, going_on, going_done, going_barred, sweep_read}
 use Rattle.network.proofs.Sounds.{draft_sound}
 use Rattle.network.proofs.solve.run_rounds.Goals as goal

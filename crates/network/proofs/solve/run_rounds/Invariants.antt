@@ -1,7 +1,6 @@
-use Rattle.std.proofs.Common.{◌≡◌, suc, ◌-◌, ◌≤◌, length}
+use Rattle.std.proofs.Common.{◌-◌}
 use Rattle.network.specs.Drafts.{net}
 use Rattle.network.specs.Nets.{count}
-use Rattle.network.specs.Rounds.{rounds, central}
 use Rattle.network.proofs.Going.{Going}
 use Rattle.network.proofs.solve.run_rounds.Given as goal
 

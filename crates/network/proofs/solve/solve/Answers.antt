@@ -1,9 +1,9 @@
-use Rattle.std.proofs.Common.{◌≡◌, ◌<◌, ◌≤◌, length, drop, None, sym, refl, ap, ◌∙◌, subst, arith}
-use Rattle.std.proofs.lemmas.Bool.{true≢false, false≢true, cond-true, le-leb}
+use Rattle.std.proofs.Common.{◌≤◌, length, sym, refl, ap, ◌∙◌, subst, arith}
+use Rattle.std.proofs.lemmas.Bool.{false≢true, cond-true, le-leb}
 use Rattle.network.specs.Drafts.{net}
 use Rattle.network.specs.Nets.{count}
-use Rattle.network.specs.Rounds.{Answer, central}
-use Rattle.network.specs.Decided.{Exact, Decided}
+use Rattle.network.specs.Rounds.{central}
+use Rattle.network.specs.Decided.{Decided}
 use Rattle.network.specs.Solved.{told, filled, Windows}
 use Rattle.network.proofs.Central.{central_decides}
 use Rattle.network.proofs.Solving.{told_barred, filled_barred, windows_exact}

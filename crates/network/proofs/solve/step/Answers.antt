@@ -1,9 +1,8 @@
-use Rattle.std.proofs.Common.{◌≡◌, ℕ, ◌+◌, ◌≤◌, true, List, set, Some, None, Option, sym, ap, ◌∙◌, subst, arith}
+use Rattle.std.proofs.Common.{ℕ, ◌+◌, ◌≤◌, List, set, Some, None, Option, sym, ap, ◌∙◌, subst}
 use Rattle.std.specs.Option.{option_map}
 use Rattle.bounds.specs.declared.bar.Bar.{Bar}
 use Rattle.bounds.specs.declared.end.Ends.{Ends}
 use Rattle.network.specs.Nets.{leaves, enters}
-use Rattle.network.specs.Revised.{revised}
 use Rattle.network.specs.Rounds.{held, Sweep, noted_at}
 use Rattle.network.proofs.Steps.{joined_inside, revised_read, revised_moves}
 use Rattle.network.proofs.solve.step.Goals as goal

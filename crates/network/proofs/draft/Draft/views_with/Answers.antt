@@ -1,4 +1,4 @@
-use Rattle.std.proofs.Common.{◌≡◌, ◌+◌, cond, length, sym, ap, ◌∙◌, arith}
+use Rattle.std.proofs.Common.{◌≡◌, cond, length, sym, ap, ◌∙◌, arith}
 use Rattle.network.specs.Drafts.{plan}
 use Rattle.network.specs.Rows.{room_of, shows}
 use Rattle.network.proofs.Borders.{with_views_same, length_with_views}
