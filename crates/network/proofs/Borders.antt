@@ -1,6 +1,6 @@
 -- The views that a rule between two rooms needs, and what an accepted rule has passed.
 use Rattle.std.proofs.Common.{◌≡◌, ℕ, ◌+◌, ◌<◌, ◌≤◌, Bool, true, false, cond, ◌&&◌, ◌||◌, eqb, List, [], ◌∷◌, ◌++◌, length, Some, None, sym, refl, ap, ◌∙◌, subst, ⊎_elim, arith}
-use Rattle.std.specs.List.{AllByRecursion as All}
+use Rattle.std.specs.List.{AllByRecursion}
 use Rattle.std.proofs.lemmas.List.{length_push}
 use Rattle.std.proofs.lemmas.Bool.{not-true, not_from_false, and_from, and_left, or_left, or_right, ltb-true, lt-ltb, leb-true, eq-eqb, ne_eqb, eqb-false, cases_Bool}
 use Rattle.network.specs.Rows.{joins, room_of, shows, abroad, bordered}
@@ -82,11 +82,11 @@ module _ (P : Plan) (r : Rule) where
 
 -- ---- what a rule with no refusal has passed
 
-pub all_yes : (qs : List Question) → first_no qs ≡ None → All (λ q. q.yes ≡ true) qs
+pub all_yes : (qs : List Question) → first_no qs ≡ None → AllByRecursion (λ q. q.yes ≡ true) qs
 all_yes [] h = tt
 all_yes (q ∷ qs) h = by q.yes h (all_yes qs)
   where
-    by : (b : Bool) → cond b (first_no qs) (Some q.refusal) ≡ None → (first_no qs ≡ None → All (λ q. q.yes ≡ true) qs) → (b ≡ true) × All (λ q. q.yes ≡ true) qs
+    by : (b : Bool) → cond b (first_no qs) (Some q.refusal) ≡ None → (first_no qs ≡ None → AllByRecursion (λ q. q.yes ≡ true) qs) → (b ≡ true) × AllByRecursion (λ q. q.yes ≡ true) qs
     by true h rest = (refl, rest h)
     by false h rest = absurd (let z : ◌≡◌ {A = ℕ} 0 1 = cc in omega arith)
 

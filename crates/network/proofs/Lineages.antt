@@ -1,6 +1,6 @@
 -- Walks and lineages: no schedule passes them, a strictly tighter end extends one, and with a schedule none comes to an event twice.
 use Rattle.std.proofs.Common.{◌≡◌, ℕ, suc, ◌<◌, ◌≤◌, List, [], ◌∷◌, map, length, pos, ◌≤ℤ◌, subst, arith}
-use Rattle.std.specs.List.{AllByRecursion as All}
+use Rattle.std.specs.List.{AllByRecursion}
 use Rattle.std.proofs.lemmas.Int.{ints}
 use Rattle.std.proofs.lemmas.List.{length-map}
 use Rattle.std.proofs.ByRecursion.{All-weaker, All-map}
@@ -61,7 +61,7 @@ module _ (s : Side) (N : Net) where
   survives now later {x} {m} t (first inside g h) = first inside g (within_trans s m (now x) (later x) h (t x))
   survives now later {x} {m} t (next l c h a) = next (survives now later t l) c (within_trans s m (now x) (later x) h (t x)) a
 
-  pub under_held : (now : ℕ → Minute) {x : ℕ} {m : Minute} {past : List Stop} → Lineage s N now x m past → All (λ e. Within s e.lies (now e.event)) (stop x m ∷ past)
+  pub under_held : (now : ℕ → Minute) {x : ℕ} {m : Minute} {past : List Stop} → Lineage s N now x m past → AllByRecursion (λ e. Within s e.lies (now e.event)) (stop x m ∷ past)
   under_held now (first inside g h) = (h, tt)
   under_held now (next l c h a) = (h, under_held now l)
 
@@ -74,14 +74,14 @@ module _ (s : Side) (N : Net) where
   -- ---- links
 
   -- along a lineage the slack never falls
-  pub spread : (σ : ℕ → ℕ) (now : ℕ → Minute) {x : ℕ} {m : Minute} {past : List Stop} → Schedule N σ → Lineage s N now x m past → All (λ e. slack s (minute (σ e.event)) e.lies ≤ℤ slack s (minute (σ x)) m) past
+  pub spread : (σ : ℕ → ℕ) (now : ℕ → Minute) {x : ℕ} {m : Minute} {past : List Stop} → Schedule N σ → Lineage s N now x m past → AllByRecursion (λ e. slack s (minute (σ e.event)) e.lies ≤ℤ slack s (minute (σ x)) m) past
   spread σ now h (first inside g k) = tt
   spread σ now {x} {m} h (next {y = y} {m = a} {past = past} l c k f) =
       let q = carried_slack σ y a x m h c in
       (q, All-weaker (λ e. slack s (minute (σ e.event)) e.lies ≤ℤ slack s (minute (σ y)) a) (λ e. slack s (minute (σ e.event)) e.lies ≤ℤ slack s (minute (σ x)) m) (λ e p. omega (arith, ints)) past (spread σ now h l))
 
   -- so, with a schedule, no event comes again
-  never_again : (σ : ℕ → ℕ) (x : ℕ) (m : Minute) (past : List Stop) → All (λ e. slack s (minute (σ e.event)) e.lies ≤ℤ slack s (minute (σ x)) m) past → All (λ e. e.event ≡ x → Tighter s m e.lies) past → All (λ y. y ≡ x → ⊥) (map (λ e. e.event) past)
+  never_again : (σ : ℕ → ℕ) (x : ℕ) (m : Minute) (past : List Stop) → AllByRecursion (λ e. slack s (minute (σ e.event)) e.lies ≤ℤ slack s (minute (σ x)) m) past → AllByRecursion (λ e. e.event ≡ x → Tighter s m e.lies) past → AllByRecursion (λ y. y ≡ x → ⊥) (map (λ e. e.event) past)
   never_again σ x m [] p q = tt
   never_again σ x m (e ∷ es) p q = (
     λ same.
@@ -98,7 +98,7 @@ module _ (s : Side) (N : Net) where
   carried_inside : (y : ℕ) (m : Minute) (x : ℕ) (m' : Minute) → Sound N → Carried s N y m x m' → x < count N
   carried_inside y m x m' j c = rw (← c.into) (enters_inside N c.rule c.way (j.known c.rule c.listed))
 
-  pub events_inside : (now : ℕ → Minute) {x : ℕ} {m : Minute} {past : List Stop} → Sound N → Lineage s N now x m past → All (λ e. e.event < count N) (stop x m ∷ past)
+  pub events_inside : (now : ℕ → Minute) {x : ℕ} {m : Minute} {past : List Stop} → Sound N → Lineage s N now x m past → AllByRecursion (λ e. e.event < count N) (stop x m ∷ past)
   events_inside now j (first inside g k) = (inside, tt)
   events_inside now {x} {m} j (next {y = y} {m = a} l c k f) = (carried_inside y a x m j c, events_inside now j l)
 

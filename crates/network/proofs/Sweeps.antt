@@ -1,7 +1,7 @@
 -- What a step and a round of the central rounds keep.
 use Rattle.std.proofs.Common.{◌≡◌, ℕ, suc, ◌+◌, ◌*◌, ◌≤◌, List, [], ◌∷◌, length, Some, None, Option, refl, ◌∙◌, arith}
 use Rattle.std.specs.Option.{option_map}
-use Rattle.std.specs.List.{ContainsAt as Has, AllByRecursion as All}
+use Rattle.std.specs.List.{ContainsAt as Has, AllByRecursion}
 use Rattle.std.proofs.lemmas.List.{set-get_or}
 use Rattle.std.proofs.ByRecursion.{All-weaker}
 use Rattle.bounds.specs.Sides.{Side, carry, Within}
@@ -105,7 +105,7 @@ step_keeps N sound r w has s b h = from s.table s.moves s.bar b h
 
 pub record Sweeps (N : Net) (rs : List Rule) (s s' : Sweep) : Type 0 where
   pub keeps : Keeps N s s'
-  pub fed : s'.bar ≡ None → All (λ r. (w : Way) → Fed s.table s'.table r w) rs
+  pub fed : s'.bar ≡ None → AllByRecursion (λ r. (w : Way) → Fed s.table s'.table r w) rs
   pub few_moves : s'.moves ≤ s.moves + 4 * length rs
 
 -- a rule both ways, then the others
@@ -130,7 +130,7 @@ sweeps_then N r rs s t v z a b c =
     ways back ahead Back = back
     ways back ahead Ahead = ahead
 
-pub sweep_keeps : (N : Net) → Sound N → (rs : List Rule) → All (Has N.rules) rs → (s : Sweep) → Backed N s.table → ((bar : Bar) → s.bar ≡ Some bar → Hopeless N) → Sweeps N rs s (sweep (count N) rs s)
+pub sweep_keeps : (N : Net) → Sound N → (rs : List Rule) → AllByRecursion (Has N.rules) rs → (s : Sweep) → Backed N s.table → ((bar : Bar) → s.bar ≡ Some bar → Hopeless N) → Sweeps N rs s (sweep (count N) rs s)
 sweep_keeps N sound [] all s b h = record { keeps = keeps_all N s b h; fed = λ e. tt; few_moves = omega arith }
 sweep_keeps N sound (r ∷ rs) all s b h =
     let one : Sweep = step (count N) r Back s in

@@ -1,6 +1,6 @@
 -- Where ends come from: walks of carried minutes, lineages, and what tables of held ends keep.
 use Rattle.std.specs.Prelude.{◌≡◌, ℕ, suc, ◌<◌, ◌≤◌, List, [], ◌∷◌, length}
-use Rattle.std.specs.List.{ContainsAt as Has, AllByRecursion as All}
+use Rattle.std.specs.List.{ContainsAt as Has, AllByRecursion}
 use Rattle.bounds.specs.Sides.{Side, Minute, carry, Tighter, Within}
 use Rattle.bounds.specs.Ends.{lies, end_of}
 use Rattle.bounds.specs.declared.end.End.{End}
@@ -33,7 +33,7 @@ pub data Walk (s : Side) (N : Net) : ℕ → Minute → ℕ → Type 0 where
 -- Each minute is no tighter than what its event holds now, and where an event comes again the later minute is strictly tighter
 pub data Lineage (s : Side) (N : Net) (now : ℕ → Minute) : ℕ → Minute → List Stop → Type 0 where
   first : {x : ℕ} {m : Minute} → x < count N → Within s m (given s N x) → Within s m (now x) → Lineage s N now x m []
-  next : {y : ℕ} {m : Minute} {past : List Stop} {x : ℕ} {m' : Minute} → Lineage s N now y m past → Carried s N y m x m' → Within s m' (now x) → All (λ e. e.event ≡ x → Tighter s m' e.lies) (record { event = y; lies = m } ∷ past) → Lineage s N now x m' (record { event = y; lies = m } ∷ past)
+  next : {y : ℕ} {m : Minute} {past : List Stop} {x : ℕ} {m' : Minute} → Lineage s N now y m past → Carried s N y m x m' → Within s m' (now x) → AllByRecursion (λ e. e.event ≡ x → Tighter s m' e.lies) (record { event = y; lies = m } ∷ past) → Lineage s N now x m' (record { event = y; lies = m } ∷ past)
 
 -- the end e of event x has a lineage of as many links as it counts, fewer than there are events
 pub record Traced (s : Side) (N : Net) (now : ℕ → Minute) (x : ℕ) (e : End) : Type 0 where
