@@ -5,7 +5,7 @@ usage: python3 tools/respell.py            at the top of the repository, once
 
 A definition, a constructor, a field, a lemma, and a value that a lemma binds: `with-end` becomes `with_end`.
 The names that Rattle makes of the source (of goals, steps and their fields) keep their dashes, and so do the names
-of the library. Functions of src/, strings, inputs and outputs keep their names.
+of the library. Functions of src/ keep theirs; inputs and outputs are not read.
 It stops, and writes nothing, where a new name stands in some file already and APART does not say why that is no matter.
 """
 

@@ -37,5 +37,6 @@ pub trait Side {
     fn with(ends: Ends, end: End) -> Ends
         ensures { result ≡ with_end which ends end };
 
+    // what a side has to show: a law, since it stands below the last function
     ghost lawful: { Lawful which };
 }

@@ -1,6 +1,6 @@
 -- When a list of minutes passes the check.
 use Rattle.std.proofs.Common.{◌≡◌, ℕ, ◌+◌, ◌<◌, ◌≤◌, true, false, cond, leb, ◌↔◌, List, length, get_or, ℤ, ◌≤ℤ◌, Some, None, Option, sym, refl, ap, ◌∙◌, subst, ⊎_elim, zero-add, arith}
-use lib.Signed.{le_z}
+use Rattle.std.specs.Prelude.{int_le}
 use Rattle.std.proofs.lemmas.List.{get_or_default}
 use Rattle.std.proofs.lemmas.Int.{ints}
 use Rattle.std.proofs.ByRecursion.{has_get_or}
@@ -13,10 +13,10 @@ use Rattle.network.specs.Checks.{first_failing, in_window, kept, rule_refusal, e
 use Rattle.network.specs.declared.tables.Rule.{Rule}
 use Rattle.network.proofs.Firsts.{none_fails, all_pass}
 
-int_le_true : (a b : ℤ) → le_z a b ≡ true → a ≤ℤ b
+int_le_true : (a b : ℤ) → int_le a b ≡ true → a ≤ℤ b
 int_le_true a b h = grind (arith, ints)
 
-true_int_le : (a b : ℤ) → a ≤ℤ b → le_z a b ≡ true
+true_int_le : (a b : ℤ) → a ≤ℤ b → int_le a b ≡ true
 true_int_le a b h = grind (arith, ints)
 
 -- the test of a rule says what the rule says

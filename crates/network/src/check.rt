@@ -41,8 +41,8 @@ fn first_outside(events: &[Event], minutes: &[u32]) -> Option<u8>
 }
 
 fn first_broken(rules: &[Rule], minutes: &[u32]) -> Option<u8>
-    requires rules_len_bound { length rules.now ≤ 128 }
-    requires by_index { (k : ℕ) (d : Rule) → k < length rules.now → ((slice_index_or rules.now k d).from < length minutes.now) × ((slice_index_or rules.now k d).to < length minutes.now) }
+    requires few { length rules.now ≤ 128 }
+    requires known { (k : ℕ) (d : Rule) → k < length rules.now → ((slice_index_or rules.now k d).from < length minutes.now) × ((slice_index_or rules.now k d).to < length minutes.now) }
     ensures { result ≡ first_failing (kept minutes.now) 0 rules.now }
 {
     for (k, rule) in rules.iter().enumerate() {

@@ -1,6 +1,6 @@
 // The earliest side: the greater minute is tighter.
 ghost use Rattle.bounds.specs.Sides.{earliest};
-ghost use Rattle.bounds.specs.SidesLemmas as Sides;
+ghost use Rattle.bounds.specs.SidesLemmas;
 
 use crate::end::{End, Ends};
 use crate::gap::{Gap, Way};
@@ -16,7 +16,7 @@ impl Side for Earliest {
         links: 0,
     };
 
-    ghost lawful = { Sides.lawful earliest };
+    ghost lawful = { SidesLemmas.lawful earliest };
 
     fn fresh() -> End {
         Self::LOOSEST

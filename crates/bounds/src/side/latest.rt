@@ -1,6 +1,6 @@
 // The latest side: the smaller minute is tighter.
 ghost use Rattle.bounds.specs.Sides.{latest};
-ghost use Rattle.bounds.specs.SidesLemmas as Sides;
+ghost use Rattle.bounds.specs.SidesLemmas;
 
 use crate::end::{End, Ends};
 use crate::gap::{Gap, Way};
@@ -16,7 +16,7 @@ impl Side for Latest {
         links: 0,
     };
 
-    ghost lawful = { Sides.lawful latest };
+    ghost lawful = { SidesLemmas.lawful latest };
 
     fn fresh() -> End {
         Self::LOOSEST
