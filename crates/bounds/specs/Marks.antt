@@ -1,9 +1,11 @@
 -- The numbers of causes and refusals: each case with its number, its layer and its place.
 use Rattle.std.specs.Prelude.{ℕ}
+use Rattle.bounds.specs.declared.bar.Bar.{Bar}
 use Rattle.bounds.specs.declared.bar.Cause.{Cause}
 use Rattle.bounds.specs.declared.bar.Cause.TheVariants.{Crossed, Cycle}
 use Rattle.bounds.specs.declared.fault.LineFault.{LineFault}
 use Rattle.bounds.specs.declared.fault.LineFault.TheVariants.{Full, Nothing, Waiting}
+use Rattle.bounds.specs.declared.fault.Mark.{Mark}
 use Rattle.bounds.specs.declared.fault.PlanFault.{PlanFault}
 use Rattle.bounds.specs.declared.fault.PlanFault.TheVariants.{NoRoom, BadWindow, TooManyEvents, NoEvent, SameEvent, BadGap, TooManyRules, TooManyViews, Barred, NothingUnsent, Unsent, Unworked, NotSettled, TooFewPlaces, NoSchedule, OutsideWindow, RuleBroken, Line}
 use Rattle.bounds.specs.declared.fault.StreamFault.{StreamFault}
@@ -14,11 +16,6 @@ cause_number Crossed = 1
 cause_number Cycle = 2
 
 -- how a refusal is told; the place is 255 where none stands
-pub record Mark : Type 0 where
-  pub number : ℕ
-  pub layer : ℕ
-  pub place : ℕ
-
 abbrev pub told : ℕ → ℕ → ℕ → Mark
 told layer number place = record { number = number; layer = layer; place = place }
 
@@ -48,6 +45,10 @@ plan_mark (NoSchedule bar) = told 2 18 bar.event
 plan_mark (OutsideWindow event) = told 2 19 event
 plan_mark (RuleBroken rule) = told 2 20 rule
 plan_mark (Line fault) = line_mark fault
+
+-- the refusal of a plan that is barred: it has no schedule
+abbrev pub barring : Bar → PlanFault
+barring bar = NoSchedule bar
 
 -- layer 1 is the stream; the place of its own refusals is the command's byte
 abbrev pub stream_mark : StreamFault → Mark

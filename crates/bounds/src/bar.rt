@@ -11,6 +11,7 @@ pub enum Cause {
 }
 
 impl Cause {
+    // Kept: named as a refusal's number is, and no From, whose call would not say that it is the number that is told.
     pub fn number(self) -> u8
         ensures { result ≡ cause_number self }
     {

@@ -1,6 +1,7 @@
 // The refusals: the line's in a case of the plan's, the plan's in a case of the stream's.
 ghost use Rattle.std.specs.Prelude.{◌≡◌};
-ghost use Rattle.bounds.specs.Marks.{Mark, line_mark, plan_mark, stream_mark};
+ghost use Rattle.bounds.specs.Marks.{told, line_mark, plan_mark, stream_mark, barring};
+ghost use Rattle.bounds.specs.declared.fault.Mark.{Mark as MarkOf};
 
 use crate::bar::Bar;
 
@@ -42,6 +43,15 @@ pub enum PlanFault {
     Line(LineFault),
 }
 
+// A bar tells that there is no schedule.
+impl From<Bar> for PlanFault {
+    ghost from_gives = { λ bar fault. fault ≡ barring bar };
+
+    fn from(bar: Bar) -> PlanFault {
+        Self::NoSchedule(bar)
+    }
+}
+
 // The place of a case that holds a byte is the command's byte.
 #[derive(Clone, Copy, Debug)]
 pub enum StreamFault {
@@ -51,39 +61,69 @@ pub enum StreamFault {
     Plan(PlanFault),
 }
 
+// How a refusal is told: the three numbers that every refusal has.
+#[derive(Clone, Copy)]
+pub struct Mark {
+    pub number: u8,
+    pub layer: u8,
+    pub place: u8,
+}
+
+// Kept: layers are numbers by the specification.
+const STREAM: u8 = 1;
+
+const PLAN: u8 = 2;
+
+const LINE: u8 = 3;
+
+// The place where none stands.
+// Kept: 255, and no Option, since the specification gives every refusal three numbers.
+const NO_PLACE: u8 = 255;
+
+fn told(layer: u8, number: u8, place: u8) -> Mark
+    ensures { result ≡ told layer number place }
+{
+    Mark {
+        number,
+        layer,
+        place,
+    }
+}
+
 // What every refusal answers of itself.
 pub trait Refusal {
-    ghost mark: { Self → Mark };
+    ghost mark: { Self → MarkOf };
+
+    fn mark(&self) -> Mark
+        ensures { result ≡ mark self.now };
 
     fn number(&self) -> u8
-        ensures { result ≡ (mark self.now).number };
+        ensures { result ≡ (mark self.now).number }
+    {
+        self.mark().number
+    }
 
     fn layer(&self) -> u8
-        ensures { result ≡ (mark self.now).layer };
+        ensures { result ≡ (mark self.now).layer }
+    {
+        self.mark().layer
+    }
 
     fn place(&self) -> u8
-        ensures { result ≡ (mark self.now).place };
+        ensures { result ≡ (mark self.now).place }
+    {
+        self.mark().place
+    }
 }
 
 impl Refusal for LineFault {
     ghost mark = { line_mark };
 
-    fn number(&self) -> u8 {
+    fn mark(&self) -> Mark {
         match self {
-            LineFault::Full(_) => 11,
-            LineFault::Nothing => 12,
-            LineFault::Waiting => 14,
-        }
-    }
-
-    fn layer(&self) -> u8 {
-        3
-    }
-
-    fn place(&self) -> u8 {
-        match self {
-            LineFault::Full(view) => *view,
-            LineFault::Nothing | LineFault::Waiting => 255,
+            LineFault::Full(view) => told(LINE, 11, *view),
+            LineFault::Nothing => told(LINE, 12, NO_PLACE),
+            LineFault::Waiting => told(LINE, 14, NO_PLACE),
         }
     }
 }
@@ -91,56 +131,26 @@ impl Refusal for LineFault {
 impl Refusal for PlanFault {
     ghost mark = { plan_mark };
 
-    fn number(&self) -> u8 {
+    fn mark(&self) -> Mark {
         match self {
-            PlanFault::NoRoom(_) => 1,
-            PlanFault::BadWindow => 2,
-            PlanFault::TooManyEvents => 3,
-            PlanFault::NoEvent(_) => 4,
-            PlanFault::SameEvent(_) => 5,
-            PlanFault::BadGap => 6,
-            PlanFault::TooManyRules => 7,
-            PlanFault::TooManyViews => 8,
-            PlanFault::Barred(_) => 9,
-            PlanFault::NothingUnsent(_) => 10,
-            PlanFault::Unsent(_) => 13,
-            PlanFault::Unworked(_) => 15,
-            PlanFault::NotSettled => 16,
-            PlanFault::TooFewPlaces => 17,
-            PlanFault::NoSchedule(_) => 18,
-            PlanFault::OutsideWindow(_) => 19,
-            PlanFault::RuleBroken(_) => 20,
-            PlanFault::Line(fault) => fault.number(),
-        }
-    }
-
-    fn layer(&self) -> u8 {
-        match self {
-            PlanFault::Line(fault) => fault.layer(),
-            _ => 2,
-        }
-    }
-
-    fn place(&self) -> u8 {
-        match self {
-            PlanFault::NoRoom(place)
-            | PlanFault::NoEvent(place)
-            | PlanFault::SameEvent(place)
-            | PlanFault::Barred(place)
-            | PlanFault::NothingUnsent(place)
-            | PlanFault::Unsent(place)
-            | PlanFault::Unworked(place)
-            | PlanFault::OutsideWindow(place)
-            | PlanFault::RuleBroken(place) => *place,
-            PlanFault::NoSchedule(bar) => bar.event,
-            PlanFault::Line(fault) => fault.place(),
-            PlanFault::BadWindow
-            | PlanFault::TooManyEvents
-            | PlanFault::BadGap
-            | PlanFault::TooManyRules
-            | PlanFault::TooManyViews
-            | PlanFault::NotSettled
-            | PlanFault::TooFewPlaces => 255,
+            PlanFault::NoRoom(room) => told(PLAN, 1, *room),
+            PlanFault::BadWindow => told(PLAN, 2, NO_PLACE),
+            PlanFault::TooManyEvents => told(PLAN, 3, NO_PLACE),
+            PlanFault::NoEvent(event) => told(PLAN, 4, *event),
+            PlanFault::SameEvent(event) => told(PLAN, 5, *event),
+            PlanFault::BadGap => told(PLAN, 6, NO_PLACE),
+            PlanFault::TooManyRules => told(PLAN, 7, NO_PLACE),
+            PlanFault::TooManyViews => told(PLAN, 8, NO_PLACE),
+            PlanFault::Barred(event) => told(PLAN, 9, *event),
+            PlanFault::NothingUnsent(room) => told(PLAN, 10, *room),
+            PlanFault::Unsent(view) => told(PLAN, 13, *view),
+            PlanFault::Unworked(room) => told(PLAN, 15, *room),
+            PlanFault::NotSettled => told(PLAN, 16, NO_PLACE),
+            PlanFault::TooFewPlaces => told(PLAN, 17, NO_PLACE),
+            PlanFault::NoSchedule(bar) => told(PLAN, 18, bar.event),
+            PlanFault::OutsideWindow(event) => told(PLAN, 19, *event),
+            PlanFault::RuleBroken(rule) => told(PLAN, 20, *rule),
+            PlanFault::Line(fault) => fault.mark(),
         }
     }
 }
@@ -148,28 +158,12 @@ impl Refusal for PlanFault {
 impl Refusal for StreamFault {
     ghost mark = { stream_mark };
 
-    fn number(&self) -> u8 {
+    fn mark(&self) -> Mark {
         match self {
-            StreamFault::UnknownCommand(_) => 21,
-            StreamFault::MissingOperands(_) => 22,
-            StreamFault::WrongState(_) => 23,
-            StreamFault::Plan(fault) => fault.number(),
-        }
-    }
-
-    fn layer(&self) -> u8 {
-        match self {
-            StreamFault::Plan(fault) => fault.layer(),
-            _ => 1,
-        }
-    }
-
-    fn place(&self) -> u8 {
-        match self {
-            StreamFault::UnknownCommand(byte)
-            | StreamFault::MissingOperands(byte)
-            | StreamFault::WrongState(byte) => *byte,
-            StreamFault::Plan(fault) => fault.place(),
+            StreamFault::UnknownCommand(byte) => told(STREAM, 21, *byte),
+            StreamFault::MissingOperands(byte) => told(STREAM, 22, *byte),
+            StreamFault::WrongState(byte) => told(STREAM, 23, *byte),
+            StreamFault::Plan(fault) => fault.mark(),
         }
     }
 }

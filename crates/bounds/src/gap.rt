@@ -11,3 +11,10 @@ pub enum Way {
     Back,
     Ahead,
 }
+
+// A gap taken on one of its ways: what an end is carried over, from the one event to the other.
+#[derive(Clone, Copy)]
+pub struct Passage {
+    pub gap: Gap,
+    pub way: Way,
+}

@@ -6,19 +6,8 @@ ghost use Rattle.bounds.specs.Narrowed.{narrowed};
 
 use crate::bar::Cause;
 use crate::end::{Carried, End};
-use crate::gap::{Gap, Way};
+use crate::gap::Passage;
 use crate::side::Side;
-
-// What became of an end against a carried one.
-#[derive(Clone, Copy)]
-pub enum Narrowing {
-    // the carried end is not strictly tighter
-    Dropped,
-    // the carried end is held now
-    Moved(End),
-    // the carried end leaves the event no minute
-    Barred(Cause),
-}
 
 pub fn is_tighter<S: Side>(a: End, b: End) -> bool
     ensures { result ≡ tighter S.Side.which (lies a) (lies b) }
@@ -26,17 +15,17 @@ pub fn is_tighter<S: Side>(a: End, b: End) -> bool
     S::is_tighter(i64::from(a.minute), i64::from(b.minute))
 }
 
-pub fn carry<S: Side>(end: End, gap: Gap, way: Way) -> Carried
-    ensures { result ≡ carried S.Side.which gap way end }
+pub fn carry<S: Side>(end: End, passage: Passage) -> Carried
+    ensures { result ≡ carried S.Side.which passage.gap passage.way end }
 {
-    let minute = S::carry(end.minute, gap, way);
     Carried {
-        minute,
+        minute: S::carry(end.minute, passage),
         links: u16::from(end.links) + 1,
     }
 }
 
 // The tighter of two ends, and of equal minutes the one over fewer links.
+// Kept: compared by hand, since which minute is tighter depends on the side, and no derived order can.
 pub fn join<S: Side>(a: End, b: End) -> End
     ensures value { result ≡ join S.Side.which a b }
     ensures best { Join S.Side.which a b result }
@@ -48,21 +37,29 @@ pub fn join<S: Side>(a: End, b: End) -> End
     }
 }
 
-// The held end against a carried one, in a plan of so many events.
-pub fn replace<S: Side>(held: End, opposite: End, carried: Carried, events: u8) -> Narrowing
+// The end that takes the held one's place, if the carried one is strictly tighter, or why it leaves the event no
+// minute, in a plan of so many events.
+pub fn replace<S: Side>(
+    held: End,
+    opposite: End,
+    carried: Carried,
+    events: u8,
+) -> Result<Option<End>, Cause>
     ensures { result ≡ narrowed S.Side.which events held opposite carried }
 {
     if !S::is_tighter(carried.minute, i64::from(held.minute)) {
-        return Narrowing::Dropped;
+        return Ok(None);
     }
     if S::is_tighter(carried.minute, i64::from(opposite.minute)) {
-        return Narrowing::Barred(Cause::Crossed);
+        return Err(Cause::Crossed);
     }
     if carried.links >= u16::from(events) {
-        return Narrowing::Barred(Cause::Cycle);
+        return Err(Cause::Cycle);
     }
-    Narrowing::Moved(End {
+    // Kept: no TryFrom, which would have a failure to answer for. Here both fit: the minute lies between two held ones,
+    // and there are fewer links than events.
+    Ok(Some(End {
         minute: carried.minute as u32,
         links: carried.links as u8,
-    })
+    }))
 }

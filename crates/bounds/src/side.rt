@@ -5,9 +5,10 @@ pub mod latest;
 ghost use Rattle.std.specs.Prelude.{◌≡◌, pos};
 ghost use Rattle.bounds.specs.Sides.{Side as Which, other, tighter, carry, Lawful};
 ghost use Rattle.bounds.specs.Ends.{loosest, end_of, with_end};
+ghost use Rattle.bounds.specs.declared.end.End.{End as EndOf};
 
 use crate::end::{End, Ends};
-use crate::gap::{Gap, Way};
+use crate::gap::Passage;
 
 pub trait Side {
     // which side of the definitions this is
@@ -16,7 +17,10 @@ pub trait Side {
     // No end of a plan is looser.
     const LOOSEST: End;
 
-    // That end, as a fresh view begins with it.
+    // stands for it in clauses: that both are the same end is proved for each side
+    ghost LOOSEST: { EndOf };
+
+    // That end. (The law on the constant says the same.)
     fn fresh() -> End
         ensures { result ≡ loosest which };
 
@@ -25,8 +29,8 @@ pub trait Side {
         ensures { result ≡ tighter which a b };
 
     // The minute that a rule carries over. (A carried minute lies near an end's, so the sum cannot leave an i64.)
-    fn carry(minute: u32, gap: Gap, way: Way) -> i64
-        ensures { result ≡ carry which gap way (pos minute) };
+    fn carry(minute: u32, passage: Passage) -> i64
+        ensures { result ≡ carry which passage.gap passage.way (pos minute) };
 
     fn of(ends: Ends) -> End
         ensures { result ≡ end_of which ends };
@@ -37,6 +41,8 @@ pub trait Side {
     fn with(ends: Ends, end: End) -> Ends
         ensures { result ≡ with_end which ends end };
 
-    // what a side has to show: a law, since it stands below the last function
+    // what a side has to show: laws, since they stand below the last function
+    ghost loosest_is: { LOOSEST ≡ loosest which };
+
     ghost lawful: { Lawful which };
 }

@@ -1,9 +1,11 @@
 // The earliest side: the greater minute is tighter.
+ghost use Rattle.std.specs.Prelude.{refl};
 ghost use Rattle.bounds.specs.Sides.{earliest};
+ghost use Rattle.bounds.specs.Ends.{loosest};
 ghost use Rattle.bounds.specs.SidesLemmas;
 
 use crate::end::{End, Ends};
-use crate::gap::{Gap, Way};
+use crate::gap::{Passage, Way};
 use crate::side::Side;
 
 pub struct Earliest;
@@ -11,10 +13,14 @@ pub struct Earliest;
 impl Side for Earliest {
     ghost which = { earliest };
 
+    ghost LOOSEST = { loosest earliest };
+
     const LOOSEST: End = End {
         minute: 0,
         links: 0,
     };
+
+    ghost loosest_is = { refl };
 
     ghost lawful = { SidesLemmas.lawful earliest };
 
@@ -26,10 +32,10 @@ impl Side for Earliest {
         a > b
     }
 
-    fn carry(minute: u32, gap: Gap, way: Way) -> i64 {
-        match way {
-            Way::Back => i64::from(minute) - i64::from(gap.most),
-            Way::Ahead => i64::from(minute) + i64::from(gap.least),
+    fn carry(minute: u32, passage: Passage) -> i64 {
+        match passage.way {
+            Way::Back => i64::from(minute) - i64::from(passage.gap.most),
+            Way::Ahead => i64::from(minute) + i64::from(passage.gap.least),
         }
     }
 

@@ -1,9 +1,11 @@
 // The latest side: the smaller minute is tighter.
+ghost use Rattle.std.specs.Prelude.{refl};
 ghost use Rattle.bounds.specs.Sides.{latest};
+ghost use Rattle.bounds.specs.Ends.{loosest};
 ghost use Rattle.bounds.specs.SidesLemmas;
 
 use crate::end::{End, Ends};
-use crate::gap::{Gap, Way};
+use crate::gap::{Passage, Way};
 use crate::side::Side;
 
 pub struct Latest;
@@ -11,10 +13,14 @@ pub struct Latest;
 impl Side for Latest {
     ghost which = { latest };
 
+    ghost LOOSEST = { loosest latest };
+
     const LOOSEST: End = End {
         minute: 527_040,
         links: 0,
     };
+
+    ghost loosest_is = { refl };
 
     ghost lawful = { SidesLemmas.lawful latest };
 
@@ -26,10 +32,10 @@ impl Side for Latest {
         a < b
     }
 
-    fn carry(minute: u32, gap: Gap, way: Way) -> i64 {
-        match way {
-            Way::Back => i64::from(minute) - i64::from(gap.least),
-            Way::Ahead => i64::from(minute) + i64::from(gap.most),
+    fn carry(minute: u32, passage: Passage) -> i64 {
+        match passage.way {
+            Way::Back => i64::from(minute) - i64::from(passage.gap.least),
+            Way::Ahead => i64::from(minute) + i64::from(passage.gap.most),
         }
     }
 
