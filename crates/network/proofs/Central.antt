@@ -1,7 +1,8 @@
 -- The central rounds decide: they bar only where there is no schedule, and else stop, in no more rounds than events, at exact windows.
-use Rattle.std.proofs.Common.{◌≡◌, ℕ, zero, suc, ◌+◌, ◌-◌, ◌*◌, ◌<◌, ◌≤◌, eqb, List, map, length, Some, None, Option, refl, ⊎_elim, arith}
-use Rattle.std.proofs.ByRecursion.{all-has, all_has_itself}
-use Rattle.std.proofs.lemmas.Bool.{cases_lt, cond_both, eqb-true, eqb-false}
+use Rattle.std.proofs.Common.{◌≡◌, ℕ, zero, suc, ◌+◌, ◌-◌, ◌*◌, ◌<◌, ◌≤◌, List, map, length, Some, None, ⊎_elim, arith}
+use Rattle.std.specs.List.{Contains}
+use Rattle.std.proofs.lemmas.List.Elements.{All-contains, All-from_recursion, recursion_from_All, Contains-get_or}
+use Rattle.std.proofs.lemmas.Bool.{cases_lt}
 use Rattle.bounds.specs.Sides.{Side}
 use Rattle.bounds.specs.declared.bar.Bar.{Bar}
 use Rattle.bounds.specs.declared.end.Ends.{Ends}
@@ -12,6 +13,8 @@ use Rattle.network.specs.Lineage.{minutes, Covered, Relaxed, Backed}
 use Rattle.network.specs.Decided.{Exact, Decided}
 use Rattle.network.proofs.Held.{round, backed_at_start, covered_at_start, settled_exact}
 use Rattle.network.proofs.Sweeps.{Fed, Sweeps, sweep_keeps}
+use Rattle.std.proofs.lemmas.Grind.{common_steps}
+use Rattle.std.proofs.lemmas.Int.{ints}
 
 -- so many rounds are done: walks of as many links are covered
 pub record Underway (N : Net) (done : ℕ) (table : List Ends) : Type 0 where
@@ -45,20 +48,13 @@ next_from N done table s u h =
     }
   where
     relaxed : s.bar ≡ None → (v : Side) → Relaxed v N (minutes v table) (minutes v s.table)
-    relaxed free v r w has = all-has (λ r. (w : Way) → Fed table s.table r w) N.rules r (h.fed free) has w v
+    relaxed free v r w has = All-contains (λ r. (w : Way) → Fed table s.table r w) N.rules r (All-from_recursion (λ r. (w : Way) → Fed table s.table r w) N.rules (h.fed free)) has w v
 
 pub underway_next : (N : Net) → Sound N → (done : ℕ) (table : List Ends) → Underway N done table → Next N done (sweep (count N) N.rules (begun table))
-underway_next N sound done table u = next_from N done table (sweep (count N) N.rules (begun table)) u (sweep_keeps N sound N.rules (all_has_itself N.rules) (begun table) u.backed (λ bar e. grind arith))
+underway_next N sound done table u = next_from N done table (sweep (count N) N.rules (begun table)) u (sweep_keeps N sound N.rules (recursion_from_All (Contains N.rules) N.rules (Contains-get_or N.rules)) (begun table) u.backed (λ bar e. grind arith))
 
 after_decides : (N : Net) (done : ℕ) (s : Sweep) (more : Answer) → Next N done s → done ≤ count N - 1 → ((suc done < count N) × Underway N (suc done) s.table → Decided N more) → Decided N (after (suc done) s more)
-after_decides N done s more h few on = by_bar s.bar h.barred h.settled (λ free some. on (h.goes_on free some))
-  where
-    by_bar : (bar : Option Bar) → ((b : Bar) → bar ≡ Some b → Hopeless N) → (bar ≡ None → s.moves ≡ 0 → Exact N s.table) → (bar ≡ None → (s.moves ≡ 0 → ⊥) → Decided N more) → Decided N (after (suc done) (record { table = s.table; moves = s.moves; bar = bar }) more)
-    by_bar (Some b) no' ex go = record { sized = h.sized; barred = λ c e. no' b refl; settled = λ e. grind arith; some_round = omega arith; few_rounds = λ p. omega arith }
-    by_bar None no' ex go =
-        cond_both (eqb s.moves 0) (record { rounds = suc done; table = s.table; bar = None }) more (λ a. Decided N a)
-        (λ e. record { sized = h.sized; barred = no'; settled = λ f. ex refl (eqb-true s.moves 0 e); some_round = omega arith; few_rounds = λ p. omega arith })
-        (λ e. go refl (eqb-false s.moves 0 e))
+after_decides N done s more h few on = grind (arith, common_steps, ints)
 
 -- a round that is not the last covers walks of one link more, and no lineage has as many links as there are events: the fuel is never used up
 rounds_decide : (N : Net) → Sound N → (left done : ℕ) (table : List Ends) → Underway N done table → done ≤ count N - 1 → count N < done + left → Decided N (rounds left (count N) N.rules done table)

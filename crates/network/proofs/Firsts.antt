@@ -1,20 +1,44 @@
--- The first row that fails a test: how a loop finds it, and what it means that none does.
-use Rattle.std.proofs.Common.{◌≡◌, ℕ, zero, suc, ◌+◌, ◌<◌, ◌≤◌, Bool, true, false, cond, List, [], ◌∷◌, length, get_or, drop, Some, None, sym, refl, ap, ◌∙◌, subst, add-zero, add-one, arith}
-use Rattle.std.proofs.lemmas.List.{at_drop_more, at_drop_all}
+-- The first row that fails a test: how the library's search finds it, and what it means that none does.
+use Rattle.std.proofs.Common.{◌≡◌, ℕ, zero, suc, ◌+◌, ◌<◌, ◌≤◌, Bool, true, false, not, cond, List, [], ◌∷◌, length, get_or, drop, Some, None, sym, refl, ap, ◌∙◌, subst, ⊎_elim, add-zero, add-one, arith}
+use Rattle.std.specs.List.{position, position_or_len}
+use Rattle.std.proofs.lemmas.List.{at_drop_all}
+use Rattle.std.proofs.lemmas.List.Sums.{fails_before_first, passes_at_first}
+use Rattle.std.proofs.lemmas.Bool.{not-true, not-false, cond-true, cond-false, lt-ltb, le-ltb, cases_lt}
 use Rattle.network.specs.Checks.{first_failing}
+use Rattle.std.proofs.lemmas.Grind.{common_steps}
+use Rattle.std.proofs.lemmas.Int.{ints}
 
 module _ {A : Type 0} (test : ℕ → A → Bool) where
   pub first_on : (xs : List A) (i : ℕ) (d : A) → i < length xs → test i (get_or xs i d) ≡ true → first_failing test (i + 1) (drop (i + 1) xs) ≡ first_failing test i (drop i xs)
-  first_on xs i d lt h =
-      sym (at_drop_more (first_failing test i) xs i d lt
-      ∙ ap (λ b. cond b (first_failing test (suc i) (drop (i + 1) xs)) (Some i)) h
-      ∙ ap (λ k. first_failing test k (drop (i + 1) xs)) (sym (add-one i)))
+  first_on xs i d lt h = grind (arith, common_steps, ints)
 
   pub first_here : (xs : List A) (i : ℕ) (d : A) → i < length xs → test i (get_or xs i d) ≡ false → first_failing test i (drop i xs) ≡ Some i
-  first_here xs i d lt h = at_drop_more (first_failing test i) xs i d lt ∙ ap (λ b. cond b (first_failing test (suc i) (drop (i + 1) xs)) (Some i)) h
+  first_here xs i d lt h = grind (arith, common_steps, ints)
 
   pub first_none : (xs : List A) (i : ℕ) → length xs ≤ i → first_failing test i (drop i xs) ≡ None
   first_none xs i le = at_drop_all (first_failing test i) xs i le
+
+  -- where the rows of ys fail just as those of xs do, the first position of one that fails is the first failing row
+  module _ {B : Type 0} (fails : B → Bool) (xs : List A) (ys : List B) (a : A) (b : B) (long : length ys ≡ length xs) (alike : (k : ℕ) → k < length xs → fails (get_or ys k b) ≡ not (test k (get_or xs k a))) where
+    all_before : (i : ℕ) → i ≤ length xs → i ≤ position_or_len fails ys → first_failing test i (drop i xs) ≡ first_failing test 0 xs
+    all_before zero le few = refl
+    all_before (suc i) le few =
+        let lt : i < length xs = omega arith in
+        let passes = not-false _ (sym (alike i lt) ∙ fails_before_first fails ys i b (omega arith)) in
+        subst (λ n. first_failing test n (drop n xs) ≡ first_failing test 0 xs) (add-one i) (first_on xs i a lt passes ∙ all_before i (omega arith) (omega arith))
+
+    pub first_position : position fails ys ≡ first_failing test 0 xs
+    first_position =
+        let n : ℕ = position_or_len fails ys in
+        ⊎_elim
+        (λ found.
+        let lt : n < length xs = omega (arith, long) in
+        cond-true _ _ _ (lt-ltb _ _ found)
+        ∙ sym (sym (all_before n (omega arith) (omega arith)) ∙ first_here xs n a lt (not-true _ (sym (alike n lt) ∙ passes_at_first fails ys b found))))
+        (λ none.
+        cond-false _ _ _ (le-ltb _ _ none)
+        ∙ sym (sym (all_before (length xs) (omega arith) (omega (arith, long))) ∙ first_none xs (length xs) (omega arith)))
+        (cases_lt n (length ys))
 
   -- none fails: all pass, numbered from i
   pub none_fails : (i : ℕ) (xs : List A) → first_failing test i xs ≡ None → (k : ℕ) (d : A) → k < length xs → test (i + k) (get_or xs k d) ≡ true

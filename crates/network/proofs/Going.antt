@@ -7,6 +7,8 @@ use Rattle.network.specs.Nets.{Net, count, Sound}
 use Rattle.network.specs.Rounds.{Sweep, sweep, begun, Answer, after, rounds, given_ends, central}
 use Rattle.network.specs.declared.tables.Rule.{Rule}
 use Rattle.network.proofs.Central.{Underway, underway_start, underway_next}
+use Rattle.std.proofs.lemmas.Grind.{common_steps}
+use Rattle.std.proofs.lemmas.Int.{ints}
 
 -- the round with this number is to be run
 pub record Going (N : Net) (number : ℕ) (table : List Ends) : Type 0 where
@@ -48,6 +50,7 @@ module _ (N : Net) (sound : Sound N) (number : ℕ) (table : List Ends) (g : Goi
       let s : Sweep = sweep (count N) N.rules (begun table) in
       ap (λ a. a.bar) (sym (run_one s refl)) ∙ barred_after s.bar s.table s.moves b _ h
 
+  -- (nothing rests on this one any more; it stands as it was named)
   pub going_done : (t : List Ends) (moves : ℕ) → sweep (count N) N.rules (begun table) ≡ record { table = t; moves = moves; bar = None } → moves ≡ 0 → central N ≡ record { rounds = number; table = t; bar = None }
   going_done t moves e none =
       sym (run_one (record { table = t; moves = 0; bar = None }) (e ∙ ap (λ m. record { table = t; moves = m; bar = None }) none))
@@ -76,4 +79,4 @@ module _ (N : Net) (sound : Sound N) (number : ℕ) (table : List Ends) (g : Goi
 
 -- the round that the code ran
 pub sweep_read : (N : Net) (n : ℕ) (rs : List Rule) (t : List Ends) → n ≡ count N → rs ≡ N.rules → sweep n rs (begun t) ≡ sweep (count N) N.rules (begun t)
-sweep_read N n rs t a b = ap (λ k. sweep k rs (begun t)) a ∙ ap (λ l. sweep (count N) l (begun t)) b
+sweep_read N n rs t a b = grind (arith, common_steps, ints)

@@ -62,14 +62,14 @@ covered_at_start s N x m k le (onward w c) = absurd (omega arith)
 -- ---- nothing is carried over any more
 
 module _ (N : Net) (table : List Ends) (b : Backed N table) where
-  between_ends : (s : Side) (x : ℕ) → x < count N → ((event N x).earliest ≤ (end_of s (held table x)).minute) × ((end_of s (held table x)).minute ≤ (event N x).latest)
+  between_ends : (s : Side) (x : ℕ) → x < count N → ((event N x).window.earliest ≤ (end_of s (held table x)).minute) × ((end_of s (held table x)).minute ≤ (event N x).window.latest)
   between_ends s x i =
-      let e = numbers_ordered (event N x).earliest (held table x).earliest.minute (b.inside earliest x i) in
-      let l = numbers_ordered (held table x).latest.minute (event N x).latest (b.inside latest x i) in
+      let e = numbers_ordered (event N x).window.earliest (held table x).earliest.minute (b.inside earliest x i) in
+      let l = numbers_ordered (held table x).latest.minute (event N x).window.latest (b.inside latest x i) in
       let o = b.opened x i in
       of s e l o
     where
-      of : (s : Side) → (event N x).earliest ≤ (held table x).earliest.minute → (held table x).latest.minute ≤ (event N x).latest → (held table x).earliest.minute ≤ (held table x).latest.minute → ((event N x).earliest ≤ (end_of s (held table x)).minute) × ((end_of s (held table x)).minute ≤ (event N x).latest)
+      of : (s : Side) → (event N x).window.earliest ≤ (held table x).earliest.minute → (held table x).latest.minute ≤ (event N x).window.latest → (held table x).earliest.minute ≤ (held table x).latest.minute → ((event N x).window.earliest ≤ (end_of s (held table x)).minute) × ((end_of s (held table x)).minute ≤ (event N x).window.latest)
       of earliest e l o = (e, omega arith)
       of latest e l o = (omega arith, l)
 

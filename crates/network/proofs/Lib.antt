@@ -1,4 +1,3 @@
-pub mod Pigeon
 pub mod Lineages
 pub mod Lattice
 pub mod Held

@@ -1,9 +1,13 @@
 -- Walks and lineages: no schedule passes them, a strictly tighter end extends one, and with a schedule none comes to an event twice.
-use Rattle.std.proofs.Common.{◌≡◌, ℕ, suc, ◌<◌, ◌≤◌, List, [], ◌∷◌, map, length, pos, ◌≤ℤ◌, subst, arith}
-use Rattle.std.specs.List.{AllByRecursion}
+use Rattle.std.proofs.Common.{◌≡◌, ℕ, suc, ◌<◌, ◌≤◌, true, false, eqb, List, [], ◌∷◌, map, length, pos, ◌≤ℤ◌, sym, subst, arith}
+use Rattle.std.specs.List.{AllByRecursion, IsDistinct, list_any}
 use Rattle.std.proofs.lemmas.Int.{ints}
 use Rattle.std.proofs.lemmas.List.{length-map}
-use Rattle.std.proofs.ByRecursion.{All-weaker, All-map}
+use Rattle.std.proofs.lemmas.Bool.{ne_eqb}
+use Rattle.std.proofs.lemmas.Grind.{common_steps}
+use Rattle.std.proofs.lemmas.Map.Keys.{IsDistinct-cons, IsDistinct-from_apart}
+use Rattle.std.proofs.lemmas.Map.Steps.{length-le_from_distinct_below}
+use Rattle.std.proofs.lemmas.List.Elements.{All-weaker, All-from_recursion, recursion_from_All}
 use Rattle.bounds.specs.Sides.{Side, earliest, latest, Minute, minute, carry, Tighter, Within, slack, source, target}
 use Rattle.bounds.specs.declared.gap.Way.{Way}
 use Rattle.bounds.specs.declared.gap.Way.TheVariants.{Back, Ahead}
@@ -11,7 +15,9 @@ use Rattle.bounds.specs.SidesLemmas.{within_trans, tighter_over, slack_within, w
 use Rattle.network.specs.Nets.{Net, count, Schedule, Hopeless, Sound, given, leaves, enters}
 use Rattle.network.specs.Lineage.{Stop, Carried, Walk, start, onward, Lineage, first, next, Tightened, Covered}
 use Rattle.network.specs.declared.tables.Rule.{Rule}
-use Rattle.network.proofs.Pigeon.{Apart, few_apart}
+
+pub all_weaker : {X : Type 0} (P Q : X → Type 0) → ((x : X) → P x → Q x) → (xs : List X) → AllByRecursion P xs → AllByRecursion Q xs
+all_weaker P Q f xs h = recursion_from_All Q xs (All-weaker P Q f xs (All-from_recursion P xs h))
 
 abbrev pub stop : ℕ → Minute → Stop
 stop x m = record { event = x; lies = m }
@@ -69,7 +75,7 @@ module _ (s : Side) (N : Net) where
   pub extends : (now later : ℕ → Minute) {y : ℕ} {m : Minute} {past : List Stop} {x : ℕ} {m' : Minute} → Tightened s now later → Within s m' (later x) → Lineage s N now y m past → Carried s N y m x m' → Tighter s m' (now x) → Lineage s N later x m' (stop y m ∷ past)
   extends now later {y} {m} {past} {x} {m'} t u l c h =
       next (survives now later t l) c u
-      (All-weaker (λ e. Within s e.lies (now e.event)) (λ e. e.event ≡ x → Tighter s m' e.lies) (λ e k same. tighter_over s m' (now x) e.lies h (subst (λ z. Within s e.lies (now z)) same k)) (stop y m ∷ past) (under_held now l))
+      (all_weaker (λ e. Within s e.lies (now e.event)) (λ e. e.event ≡ x → Tighter s m' e.lies) (λ e k same. tighter_over s m' (now x) e.lies h (subst (λ z. Within s e.lies (now z)) same k)) (stop y m ∷ past) (under_held now l))
 
   -- ---- links
 
@@ -78,34 +84,35 @@ module _ (s : Side) (N : Net) where
   spread σ now h (first inside g k) = tt
   spread σ now {x} {m} h (next {y = y} {m = a} {past = past} l c k f) =
       let q = carried_slack σ y a x m h c in
-      (q, All-weaker (λ e. slack s (minute (σ e.event)) e.lies ≤ℤ slack s (minute (σ y)) a) (λ e. slack s (minute (σ e.event)) e.lies ≤ℤ slack s (minute (σ x)) m) (λ e p. omega (arith, ints)) past (spread σ now h l))
+      (q, all_weaker (λ e. slack s (minute (σ e.event)) e.lies ≤ℤ slack s (minute (σ y)) a) (λ e. slack s (minute (σ e.event)) e.lies ≤ℤ slack s (minute (σ x)) m) (λ e p. omega (arith, ints)) past (spread σ now h l))
 
   -- so, with a schedule, no event comes again
-  never_again : (σ : ℕ → ℕ) (x : ℕ) (m : Minute) (past : List Stop) → AllByRecursion (λ e. slack s (minute (σ e.event)) e.lies ≤ℤ slack s (minute (σ x)) m) past → AllByRecursion (λ e. e.event ≡ x → Tighter s m e.lies) past → AllByRecursion (λ y. y ≡ x → ⊥) (map (λ e. e.event) past)
+  never_again : (σ : ℕ → ℕ) (x : ℕ) (m : Minute) (past : List Stop) → AllByRecursion (λ e. slack s (minute (σ e.event)) e.lies ≤ℤ slack s (minute (σ x)) m) past → AllByRecursion (λ e. e.event ≡ x → Tighter s m e.lies) past → AllByRecursion (λ y. eqb x y ≡ false) (map (λ e. e.event) past)
   never_again σ x m [] p q = tt
   never_again σ x m (e ∷ es) p q = (
-    λ same.
-        let t = slack_tighter s (minute (σ x)) m e.lies (q.0 same) in
-        let u : slack s (minute (σ x)) e.lies ≤ℤ slack s (minute (σ x)) m = subst (λ z. slack s (minute (σ z)) e.lies ≤ℤ slack s (minute (σ x)) m) same p.0 in
-        omega (arith, ints),
+    ne_eqb x e.event (λ same.
+        let t = slack_tighter s (minute (σ x)) m e.lies (q.0 (sym same)) in
+        let u : slack s (minute (σ x)) e.lies ≤ℤ slack s (minute (σ x)) m = subst (λ z. slack s (minute (σ z)) e.lies ≤ℤ slack s (minute (σ x)) m) (sym same) p.0 in
+        omega (arith, ints)),
     never_again σ x m es p.1 q.1,
   )
 
-  pub events_apart : (σ : ℕ → ℕ) (now : ℕ → Minute) {x : ℕ} {m : Minute} {past : List Stop} → Schedule N σ → Lineage s N now x m past → Apart (map (λ e. e.event) (stop x m ∷ past))
-  events_apart σ now h (first inside g k) = (tt, tt)
-  events_apart σ now {x} {m} h (next {y = y} {m = a} {past = past} l c k f) = (never_again σ x m (stop y a ∷ past) (spread σ now h (next l c k f)) f, events_apart σ now h l)
+  pub events_apart : (σ : ℕ → ℕ) (now : ℕ → Minute) {x : ℕ} {m : Minute} {past : List Stop} → Schedule N σ → Lineage s N now x m past → IsDistinct eqb (map (λ e. e.event) (stop x m ∷ past))
+  events_apart σ now {x} h (first inside g k) = IsDistinct-from_apart eqb (x ∷ []) (λ i j d lt in'. absurd (omega arith))
+  events_apart σ now {x} {m} h (next {y = y} {m = a} {past = past} l c k f) =
+      IsDistinct-cons eqb x (map (λ e. e.event) (stop y a ∷ past)) (never_again σ x m (stop y a ∷ past) (spread σ now h (next l c k f)) f) (events_apart σ now h l)
 
   carried_inside : (y : ℕ) (m : Minute) (x : ℕ) (m' : Minute) → Sound N → Carried s N y m x m' → x < count N
   carried_inside y m x m' j c = rw (← c.into) (enters_inside N c.rule c.way (j.known c.rule c.listed))
 
-  pub events_inside : (now : ℕ → Minute) {x : ℕ} {m : Minute} {past : List Stop} → Sound N → Lineage s N now x m past → AllByRecursion (λ e. e.event < count N) (stop x m ∷ past)
-  events_inside now j (first inside g k) = (inside, tt)
-  events_inside now {x} {m} j (next {y = y} {m = a} l c k f) = (carried_inside y a x m j c, events_inside now j l)
+  pub events_inside : (now : ℕ → Minute) {x : ℕ} {m : Minute} {past : List Stop} → Sound N → Lineage s N now x m past → (q : ℕ) → list_any (eqb q) (map (λ e. e.event) (stop x m ∷ past)) ≡ true → q < count N
+  events_inside now {x} j (first inside g k) q has = grind (arith, common_steps)
+  events_inside now {x} {m} j (next {y = y} {m = a} l c k f) q has = let here = carried_inside y a x m j c in let before = events_inside now j l q in grind (arith, common_steps)
 
   pub few_links : (σ : ℕ → ℕ) (now : ℕ → Minute) {x : ℕ} {m : Minute} {past : List Stop} → Sound N → Schedule N σ → Lineage s N now x m past → length past < count N
   few_links σ now {x} {m} {past} j h l =
       let es : List Stop = stop x m ∷ past in
-      let p = few_apart (count N) (map (λ e. e.event) es) (events_apart σ now h l) (All-map (λ z. z < count N) (λ e. e.event) es (events_inside now j l)) in
+      let p = length-le_from_distinct_below (map (λ e. e.event) es) (count N) (events_apart σ now h l) (events_inside now j l) in
       let q = length-map past (λ e. e.event) in
       omega arith
 

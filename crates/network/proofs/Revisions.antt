@@ -1,16 +1,16 @@
 -- What one revision keeps, for any source whose ends have lineages.
 use Rattle.std.proofs.Common.{◌≡◌, ℕ, suc, ◌<◌, ◌≤◌, List, ◌∷◌, length, set, nat_abs, Some, None, Option, sym, refl, ap, ◌∙◌, subst, ⊎_elim, arith}
-use Rattle.std.specs.List.{ContainsAt as Has}
+use Rattle.std.specs.List.{Contains}
 use Rattle.std.proofs.lemmas.List.{length-set, get_or-set_same, get_or-set_other, set-get_or, set-set}
 use Rattle.std.proofs.lemmas.Bool.{cases_eq}
 use Rattle.bounds.specs.Sides.{Side, earliest, latest, other, Minute, minute, carry, Tighter, Within}
 use Rattle.bounds.specs.Ends.{lies, end_of, with_end, carried}
+use Rattle.bounds.specs.Narrowed.{Narrowing}
 use Rattle.bounds.specs.declared.bar.Cause.{Cause}
 use Rattle.bounds.specs.declared.bar.Cause.TheVariants.{Crossed, Cycle}
 use Rattle.bounds.specs.declared.end.End.{End}
 use Rattle.bounds.specs.declared.end.Ends.{Ends}
 use Rattle.bounds.specs.declared.gap.Way.{Way}
-use Rattle.bounds.specs.declared.narrow.Narrowing.{Narrowing}
 use Rattle.bounds.specs.SidesLemmas.{within_refl, within_trans, tighter_within, not_both, other_within, numbers_ordered}
 use Rattle.network.specs.Nets.{Net, count, Sound, Hopeless, given, leaves, enters}
 use Rattle.network.specs.Revised.{noted, one_side, revised}
@@ -71,13 +71,13 @@ covered_later s N now later k t h x m j le walk = within_trans s m (now x) (late
 
 -- ---- one end against one source
 
-pub enters_table : (N : Net) → Sound N → (T : List Ends) → Backed N T → (r : Rule) (w : Way) → Has N.rules r → enters r w < length T
+pub enters_table : (N : Net) → Sound N → (T : List Ends) → Backed N T → (r : Rule) (w : Way) → Contains N.rules r → enters r w < length T
 enters_table N sound T b r w has = rw b.sized (enters_inside N r w (sound.known r has))
 
 abbrev new_end : Side → Rule → Way → End → End
 new_end s r w e = record { minute = nat_abs (carry s r.gap w (lies e)); links = suc e.links }
 
-module _ (s : Side) (N : Net) (sound : Sound N) (T : List Ends) (b : Backed N T) (r : Rule) (w : Way) (has : Has N.rules r) (e : End) (from : Traced s N (minutes s T) (leaves r w) e) where
+module _ (s : Side) (N : Net) (sound : Sound N) (T : List Ends) (b : Backed N T) (r : Rule) (w : Way) (has : Contains N.rules r) (e : End) (from : Traced s N (minutes s T) (leaves r w) e) where
   placed : enters r w < length T
   placed = enters_table N sound T b r w has
 
@@ -148,7 +148,7 @@ record Narrows (s : Side) (N : Net) (T : List Ends) (r : Rule) (w : Way) (src : 
   few : v'.moves ≤ suc v.moves
   idle : (k : ℕ) → Covered s N (minutes s T) k → count N ≤ suc k → v'.moves ≡ v.moves
 
-module _ (s : Side) (N : Net) (sound : Sound N) (T : List Ends) (b : Backed N T) (r : Rule) (w : Way) (has : Has N.rules r) (src : Ends) (from : Traced s N (minutes s T) (leaves r w) (end_of s src)) where
+module _ (s : Side) (N : Net) (sound : Sound N) (T : List Ends) (b : Backed N T) (r : Rule) (w : Way) (has : Contains N.rules r) (src : Ends) (from : Traced s N (minutes s T) (leaves r w) (end_of s src)) where
   -- where nothing is stored
   unstored : (moves : ℕ) (bar bar' : Option Cause) → ((cause : Cause) → bar' ≡ Some cause → Hopeless N) → (bar' ≡ None → bar ≡ None) → (bar' ≡ None → Within s (carry s r.gap w (lies (end_of s src))) (minutes s T (enters r w))) → Narrows s N T r w src (so_far T (enters r w) moves bar) (so_far T (enters r w) moves bar')
   unstored moves bar bar' h u f =
@@ -221,7 +221,7 @@ both_sides N T r w src v v' a b =
     of earliest e l = e
     of latest e l = l
 
-pub revised_keeps : (N : Net) → Sound N → (table : List Ends) → Backed N table → (r : Rule) (w : Way) → Has N.rules r → (src : Ends) → ((s : Side) → Traced s N (minutes s table) (leaves r w) (end_of s src)) → Revises N table r w src (revised (count N) r.gap w (held table (enters r w)) src)
+pub revised_keeps : (N : Net) → Sound N → (table : List Ends) → Backed N table → (r : Rule) (w : Way) → Contains N.rules r → (src : Ends) → ((s : Side) → Traced s N (minutes s table) (leaves r w) (end_of s src)) → Revises N table r w src (revised (count N) r.gap w (held table (enters r w)) src)
 revised_keeps N sound T b r w has src from =
     let x = enters r w in
     let v : Revision = one_side earliest (count N) r.gap w src (so_far T x 0 None) in

@@ -1,6 +1,5 @@
 -- From what the rounds decide to what the central call promises.
-use Rattle.std.proofs.Common.{◌≡◌, ℕ, ◌<◌, ◌≤◌, ◌↔◌, List, ◌++◌, map, length, Some, None, Err, Option, sym, refl, ap, ◌∙◌, subst, arith}
-use Rattle.std.proofs.lemmas.List.{length-map, get_or-map, get_or_append_left}
+use Rattle.std.proofs.Common.{◌≡◌, ℕ, ◌<◌, ◌≤◌, ◌↔◌, List, ◌++◌, map, length, Some, None, Err, Option, sym, refl, ap, subst, arith}
 use Rattle.bounds.specs.Sides.{Meets, minute}
 use Rattle.bounds.specs.declared.bar.Bar.{Bar}
 use Rattle.bounds.specs.declared.end.Ends.{Ends}
@@ -10,6 +9,8 @@ use Rattle.network.specs.Rounds.{held, Answer}
 use Rattle.network.specs.Decided.{Exact}
 use Rattle.network.specs.Solved.{window_of, told, filled, window, Windows}
 use Rattle.network.specs.declared.tables.Window.{Window}
+use Rattle.std.proofs.lemmas.Grind.{common_steps}
+use Rattle.std.proofs.lemmas.Int.{ints}
 
 -- ---- a bar
 
@@ -33,8 +34,8 @@ filled_barred before a b h = filled_by before a.rounds a.table a.bar b h
 pub same_schedule : (N : Net) → Sound N → (σ τ : ℕ → ℕ) → ((x : ℕ) → x < count N → σ x ≡ τ x) → Schedule N σ → Schedule N τ
 same_schedule N sound σ τ same s =
     record {
-      after = λ x lt. subst (λ m. (event N x).earliest ≤ m) (same x lt) (s.after x lt);
-      before = λ x lt. subst (λ m. m ≤ (event N x).latest) (same x lt) (s.before x lt);
+      after = λ x lt. subst (λ m. (event N x).window.earliest ≤ m) (same x lt) (s.after x lt);
+      before = λ x lt. subst (λ m. m ≤ (event N x).window.latest) (same x lt) (s.before x lt);
       met = λ r has.
           let k = sound.known r has in
           subst (λ m. Meets r.gap (minute (τ r.from)) (minute m)) (same r.to k.1)
@@ -42,9 +43,7 @@ same_schedule N sound σ τ same s =
     }
 
 pub filled_window : (table : List Ends) (rest : List Window) (x : ℕ) → x < length table → window (map window_of table ++ rest) x ≡ window_of (held table x)
-filled_window table rest x lt =
-    let n = length-map table window_of in
-    get_or_append_left (map window_of table) rest _ x (omega (arith, n)) ∙ get_or-map window_of table x _ _ lt
+filled_window table rest x lt = grind (arith, common_steps, ints)
 
 pub windows_exact : (N : Net) → Sound N → (table : List Ends) (rest : List Window) → length table ≡ count N → Exact N table → Windows N (map window_of table ++ rest)
 windows_exact N sound table rest sized e =

@@ -1,46 +1,37 @@
 -- How the code of a round reads the table, and what it may count on.
-use Rattle.std.proofs.Common.{◌≡◌, ℕ, ◌+◌, ◌<◌, ◌≤◌, true, List, [], ◌∷◌, length, get_or, drop, Some, None, Option, sym, ap, ◌∙◌, arith}
-use Rattle.std.proofs.lemmas.List.{get_or_default, at_drop_more}
-use Rattle.std.proofs.lemmas.Bool.{and_parts, ltb-true}
+use Rattle.std.proofs.Common.{◌≡◌, ℕ, ◌+◌, ◌<◌, ◌≤◌, true, List, [], ◌∷◌, length, get_or, drop, Some, None, Ok, Err, Option, ap, ◌∙◌, arith}
+use Rattle.std.proofs.lemmas.List.{at_drop_more}
 use Rattle.bounds.specs.Sides.{Side, earliest, latest, other}
 use Rattle.bounds.specs.Ends.{end_of, carried}
-use Rattle.bounds.specs.Narrowed.{narrowed}
+use Rattle.bounds.specs.Narrowed.{Narrowing, narrowed}
 use Rattle.bounds.specs.declared.bar.Bar.{Bar}
 use Rattle.bounds.specs.declared.bar.Cause.{Cause}
 use Rattle.bounds.specs.declared.end.Ends.{Ends}
 use Rattle.bounds.specs.declared.gap.Gap.{Gap}
 use Rattle.bounds.specs.declared.gap.Way.{Way}
 use Rattle.bounds.specs.declared.gap.Way.TheVariants.{Back, Ahead}
-use Rattle.bounds.specs.declared.narrow.Narrowing.{Narrowing}
-use Rattle.bounds.specs.declared.narrow.Narrowing.TheVariants.{Dropped, Moved, Barred}
 use Rattle.network.specs.Nets.{leaves, enters}
 use Rattle.network.specs.Revised.{noted, one_side, revised}
 use Rattle.network.specs.Rounds.{held, Sweep, step, sweep}
 use Rattle.network.specs.Rows.{joins}
 use Rattle.network.specs.declared.revise.Revision.{Revision}
 use Rattle.network.specs.declared.tables.Rule.{Rule}
+use Rattle.std.proofs.lemmas.Grind.{common_steps}
+use Rattle.std.proofs.lemmas.Int.{ints}
 
 -- both events of a rule that joins are in the table
 pub joined_inside : (n : ℕ) (r : Rule) (w : Way) → joins n r ≡ true → (leaves r w < n) × (enters r w < n)
-joined_inside n r w h = by w (ltb-true _ _ (and_parts _ _ h).0) (ltb-true _ _ (and_parts _ _ (and_parts _ _ h).1).0)
-  where
-    by : (w : Way) → r.from < n → r.to < n → (leaves r w < n) × (enters r w < n)
-    by Back f t = (t, f)
-    by Ahead f t = (f, t)
+joined_inside n r w h = grind (arith, common_steps, ints)
 
 pub revised_read : (n : ℕ) (g : Gap) (w : Way) (t : List Ends) (d : Ends) (a b x y : ℕ) → a ≡ x → b ≡ y → x < length t → y < length t → revised n g w (get_or t a d) (get_or t b d) ≡ revised n g w (held t x) (held t y)
-revised_read n g w t d a b x y ax by xin yin =
-    ap (λ k. revised n g w (get_or t k d) (get_or t b d)) ax
-    ∙ ap (λ k. revised n g w (get_or t x d) (get_or t k d)) by
-    ∙ ap (λ e. revised n g w e (get_or t y d)) (get_or_default t x d _ xin)
-    ∙ ap (λ e. revised n g w (held t x) e) (get_or_default t y d _ yin)
+revised_read n g w t d a b x y ax by xin yin = grind (arith, common_steps, ints)
 
 -- ---- a revision moves at most two ends
 
 noted_moves : (s : Side) (v : Revision) (m : Narrowing) → (noted s v m).moves ≤ v.moves + 1
-noted_moves s v Dropped = omega arith
-noted_moves s v (Moved e) = omega arith
-noted_moves s v (Barred cause) = omega arith
+noted_moves s v (Ok None) = omega arith
+noted_moves s v (Ok (Some e)) = omega arith
+noted_moves s v (Err cause) = omega arith
 
 one_side_moves : (s : Side) (n : ℕ) (g : Gap) (w : Way) (src ends : Ends) (moves : ℕ) (bar : Option Cause) → (one_side s n g w src (record { ends = ends; moves = moves; bar = bar })).moves ≤ moves + 1
 one_side_moves s n g w src ends moves (Some cause) = omega arith
@@ -68,10 +59,7 @@ sweep_barred n (r ∷ rs) s b h = sweep_barred n rs (step n r Ahead (step n r Ba
 
 module _ (n : ℕ) (rs : List Rule) (i : ℕ) (d : Rule) (in' : i < length rs) where
   pub sweep_on : (s mid end : Sweep) → step n (get_or rs i d) Back s ≡ mid → step n (get_or rs i d) Ahead mid ≡ end → sweep n (drop (i + 1) rs) end ≡ sweep n (drop i rs) s
-  sweep_on s mid end a b =
-      sym (at_drop_more (λ l. sweep n l s) rs i d in'
-      ∙ ap (λ m. sweep n (drop (i + 1) rs) (step n (get_or rs i d) Ahead m)) a
-      ∙ ap (λ e. sweep n (drop (i + 1) rs) e) b)
+  sweep_on s mid end a b = grind (arith, common_steps, ints)
 
   pub back_bars : (s : Sweep) (b : Bar) → (step n (get_or rs i d) Back s).bar ≡ Some b → (sweep n (drop i rs) s).bar ≡ Some b
   back_bars s b h =

@@ -1,9 +1,8 @@
 -- What a step and a round of the central rounds keep.
 use Rattle.std.proofs.Common.{◌≡◌, ℕ, suc, ◌+◌, ◌*◌, ◌≤◌, List, [], ◌∷◌, length, Some, None, Option, refl, ◌∙◌, arith}
 use Rattle.std.specs.Option.{option_map}
-use Rattle.std.specs.List.{ContainsAt as Has, AllByRecursion}
+use Rattle.std.specs.List.{Contains, AllByRecursion}
 use Rattle.std.proofs.lemmas.List.{set-get_or}
-use Rattle.std.proofs.ByRecursion.{All-weaker}
 use Rattle.bounds.specs.Sides.{Side, carry, Within}
 use Rattle.bounds.specs.declared.bar.Bar.{Bar}
 use Rattle.bounds.specs.declared.bar.Cause.{Cause}
@@ -17,7 +16,7 @@ use Rattle.network.specs.Rounds.{held, Sweep, noted_at, step, sweep}
 use Rattle.network.specs.Lineage.{minutes, Tightened, Covered, Backed}
 use Rattle.network.specs.declared.revise.Revision.{Revision}
 use Rattle.network.specs.declared.tables.Rule.{Rule}
-use Rattle.network.proofs.Lineages.{leaves_inside}
+use Rattle.network.proofs.Lineages.{all_weaker, leaves_inside}
 use Rattle.network.proofs.Revisions.{covered_later, Revises, revised_keeps}
 
 -- ---- what every part of a round keeps
@@ -94,7 +93,7 @@ noted_keeps N r w table moves v h =
       few_moves = omega arith;
     }
 
-pub step_keeps : (N : Net) → Sound N → (r : Rule) (w : Way) → Has N.rules r → (s : Sweep) → Backed N s.table → ((bar : Bar) → s.bar ≡ Some bar → Hopeless N) → Steps N r w s (step (count N) r w s)
+pub step_keeps : (N : Net) → Sound N → (r : Rule) (w : Way) → Contains N.rules r → (s : Sweep) → Backed N s.table → ((bar : Bar) → s.bar ≡ Some bar → Hopeless N) → Steps N r w s (step (count N) r w s)
 step_keeps N sound r w has s b h = from s.table s.moves s.bar b h
   where
     from : (table : List Ends) (moves : ℕ) (bar : Option Bar) → Backed N table → ((c : Bar) → bar ≡ Some c → Hopeless N) → Steps N r w (record { table = table; moves = moves; bar = bar }) (step (count N) r w (record { table = table; moves = moves; bar = bar }))
@@ -121,7 +120,7 @@ sweeps_then N r rs s t v z a b c =
       fed = λ e. (
         ways (fed_wider s.table s.table t.table z.table r Back (λ u x. within_refl u (minutes u s.table x)) after_b.tightens (a.fed (after_b.unbarred e)))
             (fed_wider s.table t.table v.table z.table r Ahead a.keeps.tightens c.keeps.tightens (b.fed (c.keeps.unbarred e))),
-        All-weaker (λ r. (w : Way) → Fed v.table z.table r w) (λ r. (w : Way) → Fed s.table z.table r w) (λ r f w. fed_wider s.table v.table z.table z.table r w before_c.tightens (λ u x. within_refl u (minutes u z.table x)) (f w)) rs (c.fed e),
+        all_weaker (λ r. (w : Way) → Fed v.table z.table r w) (λ r. (w : Way) → Fed s.table z.table r w) (λ r f w. fed_wider s.table v.table z.table z.table r w before_c.tightens (λ u x. within_refl u (minutes u z.table x)) (f w)) rs (c.fed e),
       );
       few_moves = omega arith;
     }
@@ -130,7 +129,7 @@ sweeps_then N r rs s t v z a b c =
     ways back ahead Back = back
     ways back ahead Ahead = ahead
 
-pub sweep_keeps : (N : Net) → Sound N → (rs : List Rule) → AllByRecursion (Has N.rules) rs → (s : Sweep) → Backed N s.table → ((bar : Bar) → s.bar ≡ Some bar → Hopeless N) → Sweeps N rs s (sweep (count N) rs s)
+pub sweep_keeps : (N : Net) → Sound N → (rs : List Rule) → AllByRecursion (Contains N.rules) rs → (s : Sweep) → Backed N s.table → ((bar : Bar) → s.bar ≡ Some bar → Hopeless N) → Sweeps N rs s (sweep (count N) rs s)
 sweep_keeps N sound [] all s b h = record { keeps = keeps_all N s b h; fed = λ e. tt; few_moves = omega arith }
 sweep_keeps N sound (r ∷ rs) all s b h =
     let one : Sweep = step (count N) r Back s in

@@ -1,17 +1,35 @@
--- A list written place by place over the front of another.
-use Rattle.std.proofs.Common.{◌≡◌, ℕ, ◌+◌, ◌<◌, ◌≤◌, List, [], ◌∷◌, ◌++◌, map, length, get_or, take, drop, set, sym, ap, ◌∙◌, append_assoc, arith}
-use Rattle.std.proofs.lemmas.List.{length-map, length-take-le, take_all, drop_more, set_at, map_more}
+-- A list filled with what the items of another turn into, as one list after another.
+use Rattle.std.proofs.Common.{◌≡◌, ℕ, ◌+◌, ◌-◌, ◌<◌, ◌≤◌, List, ◌++◌, map, length, get_or, take, drop, sym, ap, ◌∙◌, ⊎_elim, arith, length-append, length-drop}
+use Rattle.std.proofs.lemmas.List.{length-map, get_or-map, get_or_append_left, get_or-append_right, get_or-drop, same_lists, drop_all, append-nil}
+use Rattle.std.proofs.lemmas.Bool.{cases_lt}
+use Rattle.std.proofs.lemmas.Grind.{common_steps}
+use Rattle.network.specs.Solved.{Filled}
 
-module _ {X Y : Type 0} (f : X → Y) (xs : List X) (old : List Y) (fits : length xs ≤ length old) where
-  pub written_more : (now : List Y) (i : ℕ) (d : X) (e : Y) → i < length xs → now ≡ map f (take i xs) ++ drop i old → set now i (f (get_or xs i d)) ≡ map f (take (i + 1) xs) ++ drop (i + 1) old
-  written_more now i d e lt h =
-      let n : length (map f (take i xs)) ≡ i = length-map (take i xs) f ∙ length-take-le i xs (omega arith) in
-      ap (λ l. set l i (f (get_or xs i d))) (h ∙ ap (λ l. map f (take i xs) ++ l) (drop_more old i e (omega arith)))
-      ∙ set_at (map f (take i xs)) (get_or old i e) (drop (i + 1) old) (f (get_or xs i d)) i n
-      ∙ sym (append_assoc (map f (take i xs)) (f (get_or xs i d) ∷ []) (drop (i + 1) old))
-      ∙ ap (λ l. l ++ drop (i + 1) old) (sym (map_more f xs i d lt))
+module _ {A B : Type 0} (f : A → B) (a : A) (items : List A) (before after : List B) (h : Filled (λ x y. y ≡ f x) items before after) where
+  at : (k : ℕ) (d : B) → k < length after → get_or after k d ≡ get_or (map f items ++ drop (length items) before) k d
+  at k d lt =
+      let n = length-map items f in
+      ⊎_elim
+      (λ first. h.turned k a d first ∙ sym (get_or_append_left (map f items) (drop (length items) before) d k (omega arith) ∙ get_or-map f items k a d first))
+      (λ later.
+      let same : length items + (k - length items) ≡ k = omega arith in
+      h.rest k d later
+      ∙ sym (get_or-append_right (map f items) (drop (length items) before) (length items) k d n later ∙ get_or-drop (length items) before (k - length items) d ∙ ap (λ i. get_or before i d) same))
+      (cases_lt k (length items))
 
-  pub written_all : (now : List Y) (i : ℕ) → length xs ≤ i → i ≤ length xs → now ≡ map f (take i xs) ++ drop i old → now ≡ map f xs ++ drop (length xs) old
-  written_all now i ge le h =
-      let e : i ≡ length xs = omega arith in
-      h ∙ ap (λ l. map f l ++ drop i old) (take_all i xs ge) ∙ ap (λ k. map f xs ++ drop k old) e
+  pub filled_places : length items ≤ length before → after ≡ map f items ++ drop (length items) before
+  filled_places fits =
+      let n = length-map items f in
+      let l = length-append (map f items) (drop (length items) before) in
+      let m = length-drop (length items) before in
+      let s = h.sized in
+      same_lists after (map f items ++ drop (length items) before) (omega arith) at
+
+  -- where there is a place for each item and no other
+  pub filled_all : length items ≡ length before → after ≡ map f items
+  filled_all same = filled_places (omega arith) ∙ ap (λ l. map f items ++ l) (drop_all (length items) before (omega arith)) ∙ append-nil (map f items)
+
+-- a list that was written place by place over the front of another, once no item is left
+-- (nothing rests on this one any more; it stands as it was named)
+pub written_all : {X Y : Type 0} (f : X → Y) (xs : List X) (old : List Y) (now : List Y) (i : ℕ) → length xs ≤ i → i ≤ length xs → now ≡ map f (take i xs) ++ drop i old → now ≡ map f xs ++ drop (length xs) old
+written_all f xs old now i ge le h = grind (arith, common_steps)

@@ -5,7 +5,7 @@ use Rattle.network.specs.Plans.{Plan, net_of}
 use Rattle.network.specs.declared.draft.Draft.{Draft}
 
 abbrev pub plan : Draft → Plan
-plan d = record { events = vec_items d.events; rules = vec_items d.rules; views = vec_items d.views }
+plan d = record { events = vec_items d.events.rows; rules = vec_items d.rules.rows; views = vec_items d.views.rows }
 
 abbrev pub net : Draft → Net
 net d = net_of (plan d)

@@ -1,6 +1,6 @@
 -- Where ends come from: walks of carried minutes, lineages, and what tables of held ends keep.
 use Rattle.std.specs.Prelude.{◌≡◌, ℕ, suc, ◌<◌, ◌≤◌, List, [], ◌∷◌, length}
-use Rattle.std.specs.List.{ContainsAt as Has, AllByRecursion}
+use Rattle.std.specs.List.{Contains, AllByRecursion}
 use Rattle.bounds.specs.Sides.{Side, Minute, carry, Tighter, Within}
 use Rattle.bounds.specs.Ends.{lies, end_of}
 use Rattle.bounds.specs.declared.end.End.{End}
@@ -19,7 +19,7 @@ pub record Stop : Type 0 where
 pub record Carried (s : Side) (N : Net) (y : ℕ) (m : Minute) (x : ℕ) (m' : Minute) : Type 0 where
   pub rule : Rule
   pub way : Way
-  pub listed : Has N.rules rule
+  pub listed : Contains N.rules rule
   pub outof : leaves rule way ≡ y
   pub into : enters rule way ≡ x
   pub value : carry s rule.gap way m ≡ m'
@@ -56,7 +56,7 @@ Covered s N now links = (x : ℕ) (m : Minute) (k : ℕ) → k ≤ links → Wal
 
 -- later has taken over all that the rules carry from now
 abbrev pub Relaxed : Side → Net → (ℕ → Minute) → (ℕ → Minute) → Type 0
-Relaxed s N now later = (r : Rule) (w : Way) → Has N.rules r → Within s (carry s r.gap w (now (leaves r w))) (later (enters r w))
+Relaxed s N now later = (r : Rule) (w : Way) → Contains N.rules r → Within s (carry s r.gap w (now (leaves r w))) (later (enters r w))
 
 -- a table of held ends: each has a lineage and is no looser than the given one, and no window is empty
 pub record Backed (N : Net) (table : List Ends) : Type 0 where

@@ -48,7 +48,7 @@ plan_after (Some fault) old new = old
 abbrev pub event_questions : Plan → Event → List Question
 event_questions P e =
     ask (nat_lt e.room 8) (NoRoom e.room)
-    ∷ ask (opens e) BadWindow
+    ∷ ask (opens e.window) BadWindow
     ∷ ask (nat_lt (length P.events) 64) TooManyEvents
     ∷ []
 
@@ -71,7 +71,15 @@ with_view views event room = cond (shows views event room) views (views ++ recor
 abbrev pub viewing : Plan → List View → Plan
 viewing P views = record { events = P.events; rules = P.rules; views = views }
 
+-- the view of an event in the room of another
+abbrev pub view_of : Plan → ℕ → ℕ → View
+view_of P event other = record { event = event; room = room_of P.events other }
+
 -- a rule between rooms needs the view of its from event in its to event's room, then that of its to event in its from event's room
+abbrev pub needed : Plan → Rule → Option (View × View)
+needed P r = cond (room_of P.events r.from == room_of P.events r.to) None (Some (view_of P r.from r.to, view_of P r.to r.from))
+
+-- the views, with those that the rule needs
 abbrev pub with_views : Plan → Rule → List View
 with_views P r =
     cond (room_of P.events r.from == room_of P.events r.to)

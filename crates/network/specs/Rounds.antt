@@ -69,7 +69,7 @@ rounds (suc left) events rs done table =
 
 -- the given ends, with no links
 abbrev pub given_ends : Event → Ends
-given_ends e = record { earliest = record { minute = e.earliest; links = 0 }; latest = record { minute = e.latest; links = 0 } }
+given_ends e = record { earliest = record { minute = e.window.earliest; links = 0 }; latest = record { minute = e.window.latest; links = 0 } }
 
 -- from the given windows; there are never more rounds than events, but one with none
 abbrev pub central : Net → Answer

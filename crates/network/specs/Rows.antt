@@ -1,25 +1,32 @@
 -- What the rows of a draft keep to, each as a test.
-use Rattle.std.specs.Prelude.{◌≡◌, ℕ, ◌<◌, Bool, true, false, not, ◌&&◌, ◌||◌, List, [], ◌∷◌, length, get_or, pos, neg_ℤ, ◌==◌, int_le, nat_le, nat_lt, slice_index_or}
+use Rattle.std.specs.Prelude.{ℕ, ◌<◌, Bool, not, ◌&&◌, ◌||◌, List, length, get_or, pos, neg_ℤ, ◌==◌, int_le, nat_le, nat_lt}
+use Rattle.std.specs.List.{AllPass, list_any}
 use Rattle.bounds.specs.Sides.{last_minute}
 use Rattle.bounds.specs.declared.gap.Gap.{Gap}
 use Rattle.network.specs.declared.tables.Event.{Event}
 use Rattle.network.specs.declared.tables.Rule.{Rule}
 use Rattle.network.specs.declared.tables.View.{View}
+use Rattle.network.specs.declared.tables.Window.{Window}
+use Rattle.network.specs.Nets.{no_event}
 
 -- every row passes the test
 abbrev pub Pass : {X : Type 0} → (X → Bool) → List X → Type 0
-Pass {X} test xs = (k : ℕ) (d : X) → k < length xs → test (slice_index_or xs k d) ≡ true
+Pass test xs = AllPass test xs
 
 -- the window is not empty and ends by the last minute
-abbrev pub opens : Event → Bool
-opens e = nat_le e.earliest e.latest && nat_le e.latest last_minute
+abbrev pub opens : Window → Bool
+opens w = nat_le w.earliest w.latest && nat_le w.latest last_minute
 
 abbrev pub placed : Event → Bool
-placed e = nat_lt e.room 8 && opens e
+placed e = nat_lt e.room 8 && opens e.window
 
 -- the bounds are in order, and no farther than the last minute either way
 abbrev pub spans : Gap → Bool
 spans g = int_le (neg_ℤ (pos last_minute)) g.least && (int_le g.least g.most && int_le g.most (pos last_minute))
+
+-- both events of the rule are among so many
+abbrev pub Known : ℕ → Rule → Type 0
+Known events r = (r.from < events) × (r.to < events)
 
 -- the rule joins two of so many events
 abbrev pub joins : ℕ → Rule → Bool
@@ -27,17 +34,15 @@ joins events r = nat_lt r.from events && (nat_lt r.to events && (not (r.from == 
 
 -- the room of event x
 abbrev pub room_of : List Event → ℕ → ℕ
-room_of events x = (get_or events x (record { room = 0; earliest = 0; latest = 0 })).room
+room_of events x = (get_or events x no_event).room
 
 -- an event lies in the room
 abbrev pub lived : List Event → ℕ → Bool
-lived [] room = false
-lived (e ∷ es) room = e.room == room || lived es room
+lived events room = list_any (λ e. e.room == room) events
 
 -- the views have that of the event in the room
 abbrev pub shows : List View → ℕ → ℕ → Bool
-shows [] event room = false
-shows (v ∷ vs) event room = (v.event == event && v.room == room) || shows vs event room
+shows views event room = list_any (λ v. v.event == event && v.room == room) views
 
 -- the view shows a known event in another room than its own, in which some event lies
 abbrev pub abroad : List Event → View → Bool

@@ -1,5 +1,5 @@
 -- What the central call answers, and what it leaves in the caller's list.
-use Rattle.std.specs.Prelude.{ℕ, ◌<◌, ◌≤◌, cond, ◌↔◌, List, ◌++◌, map, length, drop, Some, None, Ok, Err, Result, nat_le, slice_index_or}
+use Rattle.std.specs.Prelude.{◌≡◌, ℕ, ◌<◌, ◌≤◌, cond, ◌↔◌, List, ◌++◌, map, length, drop, Some, None, Ok, Err, Result, nat_le, slice_index_or}
 use Rattle.bounds.specs.declared.end.Ends.{Ends}
 use Rattle.bounds.specs.declared.fault.PlanFault.{PlanFault}
 use Rattle.bounds.specs.declared.fault.PlanFault.TheVariants.{TooFewPlaces, NoSchedule}
@@ -35,3 +35,9 @@ pub record Windows (N : Net) (ws : List Window) : Type 0 where
   pub early : Schedule N (λ x. (window ws x).earliest)
   pub late : Schedule N (λ x. (window ws x).latest)
   pub usable : (x m : ℕ) → x < count N → (((window ws x).earliest ≤ m) × (m ≤ (window ws x).latest)) ↔ Usable N x m
+
+-- the first places of a list have what the items turn into, and the later places what they had
+pub record Filled {A B : Type 0} (becomes : A → B → Type 0) (items : List A) (before after : List B) : Type 0 where
+  pub sized : length after ≡ length before
+  pub turned : (k : ℕ) (a : A) (b : B) → k < length items → becomes (slice_index_or items k a) (slice_index_or after k b)
+  pub rest : (k : ℕ) (b : B) → length items ≤ k → slice_index_or after k b ≡ slice_index_or before k b

@@ -10,7 +10,7 @@ use Rattle.network.specs.declared.tables.Rule.{Rule}
 use Rattle.network.specs.declared.tables.Window.{Window}
 
 abbrev pub upto : ℕ → ℕ → Event
-upto earliest latest = record { room = 0; earliest = earliest; latest = latest }
+upto earliest latest = record { room = 0; window = record { earliest = earliest; latest = latest } }
 
 -- a rule from event 0 to event 1
 abbrev pub rule : ℤ → ℤ → Rule

@@ -1,18 +1,18 @@
 // The central call: rounds over all rules, until one moves nothing or bars.
-ghost use Rattle.std.specs.Prelude.{◌≡◌, ℕ, ◌+◌, ◌<◌, ◌≤◌, true, ◌↔◌, ◌++◌, map, length, drop, is_ok, is_err, IfOk, Some as Barring, None as Unbarred, MatchResult};
+ghost use Rattle.std.specs.Prelude.{◌≡◌, ℕ, ◌+◌, ◌<◌, ◌≤◌, true, ◌↔◌, map, length, IsOk, IsErr, IfOk, Some as Barring, None as Unbarred, MatchResult};
 ghost use Rattle.network.specs.Drafts.{net};
 ghost use Rattle.network.specs.Nets.{count, Hopeless};
-ghost use Rattle.network.specs.Rounds.{Sweep, step, sweep, begun, given_ends, Answer, central};
+ghost use Rattle.network.specs.Rounds.{step, sweep, begun, given_ends, central};
 ghost use Rattle.network.specs.Rows.{Pass, joins};
-ghost use Rattle.network.specs.Solved.{window_of, solve_answer, solve_leaves, Windows};
+ghost use Rattle.network.specs.Solved.{solve_answer, solve_leaves, Windows, Filled};
 
-use crate::draft::Draft;
+use crate::draft::{Draft, MOST_EVENTS};
 use crate::revise::revise;
-use crate::tables::{Event, Rule, Window};
+use crate::tables::{Rule, Window};
 use bounds::bar::Bar;
-use bounds::end::{End, Ends};
+use bounds::end::Ends;
 use bounds::fault::PlanFault;
-use bounds::gap::Way;
+use bounds::gap::{Passage, Way};
 use bounds::side::Side;
 use bounds::side::earliest::Earliest;
 use bounds::side::latest::Latest;
@@ -27,8 +27,8 @@ pub struct Solution {
 pub fn solve(draft: &Draft, windows: &mut [Window]) -> Result<Solution, PlanFault>
     ensures value { result ≡ solve_answer (net draft.now) windows.old }
     ensures after { windows.new ≡ solve_leaves (net draft.now) windows.old }
-    ensures refuses { count (net draft.now) ≤ length windows.old → (is_err result ≡ true) ↔ Hopeless (net draft.now) }
-    ensures exact { is_ok result ≡ true → Windows (net draft.now) windows.new }
+    ensures refuses { count (net draft.now) ≤ length windows.old → IsErr result ↔ Hopeless (net draft.now) }
+    ensures exact { IsOk result → Windows (net draft.now) windows.new }
     ensures rounds { IfOk result (λ a. (1 ≤ a.rounds) × (0 < count (net draft.now) → a.rounds ≤ count (net draft.now))) }
 {
     let events = draft.events();
@@ -36,38 +36,17 @@ pub fn solve(draft: &Draft, windows: &mut [Window]) -> Result<Solution, PlanFaul
     if windows.len() < count {
         return Err(PlanFault::TooFewPlaces);
     }
+    // Kept: a fixed array, and no Vec: no call after the making of a draft asks for memory. An ArrayVec would need none,
+    // but be filled by pushes that each have to be proved to fit, where a slice of the array has its length.
     let mut table = [Ends {
         earliest: Earliest::LOOSEST,
         latest: Latest::LOOSEST,
-    }; 64];
+    }; MOST_EVENTS];
     let ends = &mut table[0..count];
-    give(events, ends);
-    match run_rounds(draft, ends) {
-        Err(bar) => Err(PlanFault::NoSchedule(bar)),
-        Ok(rounds) => {
-            fill(windows, ends);
-            Ok(Solution { rounds })
-        }
-    }
-}
-
-// The given ends, with no links.
-fn give(events: &[Event], ends: &mut [Ends])
-    requires { length events.now ≡ length ends.old }
-    ensures { ends.new ≡ map given_ends events.now }
-{
-    for (x, event) in events.iter().enumerate() {
-        ends[x] = Ends {
-            earliest: End {
-                minute: event.earliest,
-                links: 0,
-            },
-            latest: End {
-                minute: event.latest,
-                links: 0,
-            },
-        };
-    }
+    fill(ends, events);
+    let rounds = run_rounds(draft, ends)?;
+    fill(windows, ends);
+    Ok(Solution { rounds })
 }
 
 // The number of rounds, or the bar.
@@ -76,6 +55,8 @@ fn run_rounds(draft: &Draft, ends: &mut [Ends]) -> Result<u8, Bar>
     ensures { MatchResult result (λ rounds. central (net draft.now) ≡ record { rounds = rounds; table = ends.new; bar = Unbarred }) (λ bar. (central (net draft.now)).bar ≡ Barring bar) }
 {
     let rules = draft.rules();
+    // Kept: their number beside the ends: read off them at each step, it would have to be proved to fit a u8, and the
+    // contracts of `sweep` and `step` would want a bound on their length.
     let events = ends.len() as u8;
     let mut rounds = 1;
     while sweep(rules, ends, events)? > 0 {
@@ -86,7 +67,8 @@ fn run_rounds(draft: &Draft, ends: &mut [Ends]) -> Result<u8, Bar>
 
 // One round: how many ends moved, or the bar.
 fn sweep(rules: &[Rule], ends: &mut [Ends], events: u8) -> Result<u32, Bar>
-    requires { (Pass (joins (length ends.old)) rules.now) × (length rules.now ≤ 128) }
+    requires known { Pass (joins (length ends.old)) rules.now }
+    requires few { length rules.now ≤ 128 }
     ensures { MatchResult result (λ moves. sweep events rules.now (begun ends.old) ≡ record { table = ends.new; moves = moves; bar = Unbarred }) (λ bar. (sweep events rules.now (begun ends.old)).bar ≡ Barring bar) }
 {
     let mut moves = 0;
@@ -107,8 +89,7 @@ fn step(rule: &Rule, way: Way, ends: &mut [Ends], events: u8) -> Result<u32, Bar
     let revision = revise(
         ends[usize::from(target)],
         ends[usize::from(source)],
-        rule.gap,
-        way,
+        Passage { gap: rule.gap, way },
         events,
     );
     ends[usize::from(target)] = revision.ends;
@@ -121,15 +102,13 @@ fn step(rule: &Rule, way: Way, ends: &mut [Ends], events: u8) -> Result<u32, Bar
     }
 }
 
-// The windows of the held ends, in the first places.
-fn fill(windows: &mut [Window], ends: &[Ends])
-    requires { length ends.now ≤ length windows.old }
-    ensures { windows.new ≡ map window_of ends.now ++ drop (length ends.now) windows.old }
+// Fills the first places of a list with what the items turn into.
+fn fill<A: Copy, B: Copy + From<A>>(places: &mut [B], items: &[A])
+    requires { length items.now ≤ length places.old }
+    ensures { Filled B.from_gives items.now places.old places.new }
 {
-    for (x, held) in ends.iter().enumerate() {
-        windows[x] = Window {
-            earliest: held.earliest.minute,
-            latest: held.latest.minute,
-        };
+    // Kept: an index: of what an iter_mut zipped with the items wrote (tried), a proof knows nothing.
+    for (x, item) in items.iter().enumerate() {
+        places[x] = B::from(*item);
     }
 }

@@ -1,19 +1,13 @@
-use Rattle.std.proofs.Common.{◌≡◌, ◌+◌, ◌<◌, length, sym, ap, ◌∙◌, subst, arith}
+-- Kept: without each of these the check finds no proof at half its limits (tried one by one).
+use Rattle.std.proofs.Common.{◌+◌, ◌<◌, length, sym, ap, ◌∙◌, subst, arith}
 use Rattle.std.proofs.lemmas.List.{length-map}
 use Rattle.std.proofs.lemmas.Result.{err_from_is_err_and}
 use Rattle.network.specs.Drafts.{net}
 use Rattle.network.specs.Nets.{count}
 use Rattle.network.specs.Rounds.{given_ends}
-use Rattle.network.proofs.Going.{Going, going_start, going_on, going_done, going_barred, sweep_read}
+use Rattle.network.proofs.Going.{Going, going_start, going_on, going_barred, sweep_read}
 use Rattle.network.proofs.Sounds.{draft_sound}
 use Rattle.network.proofs.solve.run_rounds.Goals as goal
-
--- there are as many ends as events
-sized : (c : goal.After-rules-rules) → length c.args.ends.now ≡ count (net c.args.draft.now)
-sized c = ap length c.requires ∙ length-map (net c.args.draft.now).events given_ends
-
-pub overflow_cast-events : goal.overflow_cast-events
-overflow_cast-events c = let d = c.args.draft.now in omega (arith, sized c, d.few_events, d.events.ok.0)
 
 pub loop-rounds-init : goal.loop-rounds-init
 loop-rounds-init c = let N = net c.args.draft.now in subst (Going N 1) (sym c.requires) (going_start N (draft_sound c.args.draft.now))
@@ -41,11 +35,3 @@ loop-rounds-smaller c = let k = (turn c).0 in omega (arith, k)
 
 pub loop-rounds-preserved : goal.loop-rounds-preserved
 loop-rounds-preserved c = (turn c).1
-
-pub returns : goal.returns
-returns c =
-    let N = net c.args.draft.now in
-    let l = c.loop-rounds in
-    let n = ap length c.requires ∙ length-map N.events given_ends in
-    let e = sym (sweep_read N _ _ l.ends n c.rules-rules.ensures) ∙ c.in_ok-sweep.ensures in
-    going_done N (draft_sound c.args.draft.now) l.rounds l.ends l.invariant c.sweep.new.ends c.in_ok-sweep.field-0 e (omega (arith, c.if-branch-gt0.false))

@@ -1,4 +1,5 @@
-use Rattle.std.proofs.Common.{ℕ, ◌+◌, ◌≤◌, List, set, Some, None, Option, sym, ap, ◌∙◌, subst}
+-- Kept: without each of these the check finds no proof at half its limits (tried one by one).
+use Rattle.std.proofs.Common.{ℕ, ◌+◌, ◌≤◌, List, set, None, Option, sym, ap, ◌∙◌, subst}
 use Rattle.std.specs.Option.{option_map}
 use Rattle.bounds.specs.declared.bar.Bar.{Bar}
 use Rattle.bounds.specs.declared.end.Ends.{Ends}
@@ -10,18 +11,6 @@ use Rattle.network.proofs.solve.step.Goals as goal
 -- the table with these ends at event x
 abbrev swept : List Ends → ℕ → Ends → ℕ → Option Bar → Sweep
 swept t x ends moves bar = record { table = set t x ends; moves = moves; bar = bar }
-
-pub returns-in-Some : goal.returns-in-Some
-returns-in-Some c =
-    let r = c.args.rule.now in
-    let w = c.args.way in
-    let t = c.args.ends.now in
-    let in' = joined_inside _ r w c.requires in
-    let read = c.revise-revision.ensures ∙ revised_read c.args.events r.gap w t _ c.from.result c.from-2.result (enters r w) (leaves r w) (c.from.ensures ∙ c.enters-target.ensures) (c.from-2.ensures ∙ c.leaves-source.ensures) in'.1 in'.0 in
-    λ before.
-    ap (λ v. option_map (λ cause. record { cause = cause; event = enters r w }) v.bar) (sym read)
-    ∙ ap (option_map (λ cause. record { cause = cause; event = enters r w })) c.in-Some.is
-    ∙ ap (λ e. Some (record { cause = c.in-Some.cause; event = e })) (sym c.enters-target.ensures)
 
 pub returns-in-None : goal.returns-in-None
 returns-in-None c =

@@ -1,7 +1,7 @@
+-- Kept: without each of these the check finds no proof at half its limits (tried one by one).
 use Rattle.std.proofs.Common.{◌+◌, pos, None, sym, ap, ◌∙◌, arith}
-use Rattle.std.proofs.lemmas.List.{at_drop_all}
 use Rattle.std.proofs.lemmas.Result.{err_from_is_err_and}
-use Rattle.network.specs.Rounds.{Sweep, sweep}
+use Rattle.network.specs.Rounds.{Sweep}
 use Rattle.network.proofs.Steps.{sweep_on, back_bars, ahead_bars}
 use Rattle.network.proofs.solve.sweep.Goals as goal
 
@@ -31,9 +31,3 @@ loop-rule-preserved c =
       sweep_on c.args.events c.args.rules.now l.rule-index (record { from = 0; to = 0; gap = record { least = pos 0; most = pos 0 } }) c.loop-rule-test.true s mid end (a.1 l.moves) (b.1 (l.moves + c.in_ok-moves.field-0)) ∙ l.invariant.0,
       omega (arith, a.0, b.0, l.invariant.1),
     )
-
-pub returns : goal.returns
-returns c =
-    let l = c.loop-rule in
-    let s : Sweep = record { table = l.ends; moves = l.moves; bar = None } in
-    sym l.invariant.0 ∙ at_drop_all (λ rs. sweep c.args.events rs s) c.args.rules.now l.rule-index c.loop-rule-test.false
