@@ -1,4 +1,5 @@
 // A minute of the plan in a curator's words. The plan counts minutes from the start of its day 0.
+use network::tables::Window;
 use std::fmt;
 
 pub const HOUR: u32 = 60;
@@ -15,5 +16,15 @@ impl fmt::Display for Clock {
         let hour = self.0 % DAY / HOUR;
         let minute = self.0 % HOUR;
         write!(f, "day {day} {hour:02}:{minute:02}")
+    }
+}
+
+// A window, shown from its first minute to its last.
+#[derive(Clone, Copy)]
+pub struct Span(pub Window);
+
+impl fmt::Display for Span {
+    fn fmt<W: fmt::Write>(&self, f: &mut fmt::Formatter<W>) -> fmt::Result {
+        write!(f, "{} to {}", Clock(self.0.earliest), Clock(self.0.latest))
     }
 }

@@ -1,108 +1,104 @@
 // The events of the day: three lots, four steps each.
+ghost use Rattle.std.specs.Prelude.{◌<◌};
+
 use crate::clock::{DAY, HOUR};
-use network::tables::Event;
+use crate::lot::Lot;
+use crate::room::Room;
+use crate::step::Step;
+use network::tables::{Event, Window};
+use std::{array, fmt};
+
+pub const EVENTS: usize = 12;
 
 // The day that the lots arrive. Day 0 is the first day of the bank's year.
 const START: u32 = 100 * DAY;
 
-pub const EVENTS: usize = 12;
-
-// The rooms. Lupin goes to the base collection in the freezer, the other two lots to the cold room for active use.
-const INTAKE: u8 = 0;
-
-const DRIER: u8 = 1;
-
-const SEALING: u8 = 2;
-
-const COLD_ROOM: u8 = 3;
-
-const FREEZER: u8 = 4;
-
 // The drier and the sealing bench are staffed from six in the morning to eight in the evening of the next day.
+const STAFFED: Window = Window {
+    earliest: START + 6 * HOUR,
+    latest: START + DAY + 20 * HOUR,
+};
+
 // All lots are to lie on their shelves by noon of that next day.
-const OPENS: u32 = START + 6 * HOUR;
+pub const SHELVING: Window = Window {
+    earliest: STAFFED.earliest,
+    latest: START + DAY + 12 * HOUR,
+};
 
-const CLOSES: u32 = START + DAY + 20 * HOUR;
+// A step of one lot's handling.
+#[derive(Clone, Copy)]
+pub struct DayEvent {
+    pub lot: Lot,
+    pub step: Step,
+}
 
-const NOON: u32 = START + DAY + 12 * HOUR;
+impl DayEvent {
+    // Its place in the day: events 0 to 3 are the emmer wheat's, 4 to 7 the wild lupin's and 8 to 11 the mountain
+    // rye's.
+    pub fn index(self) -> usize
+        ensures { result < EVENTS }
+    {
+        self.lot as usize * Step::ALL.len() + self.step as usize
+    }
 
-const EMMER: &str = "emmer wheat";
+    // Where it happens. Lupin goes to the base collection in the freezer, the other two lots to the cold room for
+    // active use.
+    pub fn room(self) -> Room {
+        match (self.step, self.lot) {
+            (Step::Arrives, _) => Room::Intake,
+            (Step::Dries, _) => Room::Drier,
+            (Step::Sealed, _) => Room::Sealing,
+            (Step::Shelved, Lot::Lupin) => Room::Freezer,
+            (Step::Shelved, Lot::Emmer | Lot::Rye) => Room::ColdRoom,
+        }
+    }
 
-const LUPIN: &str = "wild lupin";
-
-const RYE: &str = "mountain rye";
-
-const ARRIVES: &str = "arrives";
-
-const DRIES: &str = "enters the drier";
-
-const SEALED: &str = "is sealed";
-
-const SHELVED: &str = "is shelved";
-
-// A lot, a step of its handling, the room where that happens, and the earliest and the latest minute that are given for
-// it from outside: for an arrival, when the van comes.
-pub type Row = (&'static str, &'static str, u8, u32, u32);
-
-// Events 0 to 3 are the emmer wheat's, 4 to 7 the wild lupin's and 8 to 11 the mountain rye's.
-pub static ROWS: [Row; EVENTS] = [
-    (EMMER, ARRIVES, INTAKE, START + 7 * HOUR, START + 9 * HOUR),
-    (EMMER, DRIES, DRIER, OPENS, CLOSES),
-    (EMMER, SEALED, SEALING, OPENS, CLOSES),
-    (EMMER, SHELVED, COLD_ROOM, OPENS, NOON),
-    (LUPIN, ARRIVES, INTAKE, START + 8 * HOUR, START + 12 * HOUR),
-    (LUPIN, DRIES, DRIER, OPENS, CLOSES),
-    (LUPIN, SEALED, SEALING, OPENS, CLOSES),
-    (LUPIN, SHELVED, FREEZER, OPENS, NOON),
-    (RYE, ARRIVES, INTAKE, START + 10 * HOUR, START + 16 * HOUR),
-    (RYE, DRIES, DRIER, OPENS, CLOSES),
-    (RYE, SEALED, SEALING, OPENS, CLOSES),
-    (RYE, SHELVED, COLD_ROOM, OPENS, NOON),
-];
-
-pub const EMMER_ARRIVES: usize = 0;
-
-pub const EMMER_SEALED: usize = 2;
-
-pub const LUPIN_DRIES: usize = 5;
-
-pub const RYE_DRIES: usize = 9;
-
-// Two slips of the pen at the mountain rye's last step.
-pub static SLIPS: [(&str, Event); 2] = [
-    (
-        "\nA slip of the pen puts the mountain rye's shelf into room 9:",
-        Event {
-            room: 9,
-            earliest: OPENS,
-            latest: NOON,
-        },
-    ),
-    (
-        "Another one swaps the two ends of its window:",
-        Event {
-            room: COLD_ROOM,
-            earliest: NOON,
-            latest: OPENS,
-        },
-    ),
-];
-
-pub fn room_name(room: u8) -> &'static str {
-    match room {
-        INTAKE => "intake",
-        DRIER => "drier",
-        SEALING => "sealing",
-        COLD_ROOM => "cold room",
-        FREEZER => "freezer",
-        _ => "no room in use",
+    // The window that is given for it from outside: for an arrival, when the van comes.
+    pub fn given(self) -> Window {
+        match self.step {
+            Step::Arrives => van(self.lot),
+            Step::Dries | Step::Sealed => STAFFED,
+            Step::Shelved => SHELVING,
+        }
     }
 }
 
-// The lot and the step of an event of the day.
-pub fn lot_and_step(event: u8) -> (&'static str, &'static str) {
-    match ROWS.get(usize::from(event)) {
-        Some((lot, step, _, _, _)) => (*lot, *step),
-        None => ("no lot", "of this day"),
+impl From<DayEvent> for Event {
+    fn from(event: DayEvent) -> Event {
+        Event {
+            room: event.room().into(),
+            window: event.given(),
+        }
     }
+}
+
+impl fmt::Display for DayEvent {
+    fn fmt<W: fmt::Write>(&self, f: &mut fmt::Formatter<W>) -> fmt::Result {
+        write!(f, "{} {}", self.lot, self.step)
+    }
+}
+
+fn van(lot: Lot) -> Window {
+    match lot {
+        Lot::Emmer => Window {
+            earliest: START + 7 * HOUR,
+            latest: START + 9 * HOUR,
+        },
+        Lot::Lupin => Window {
+            earliest: START + 8 * HOUR,
+            latest: START + 12 * HOUR,
+        },
+        Lot::Rye => Window {
+            earliest: START + 10 * HOUR,
+            latest: START + 16 * HOUR,
+        },
+    }
+}
+
+// All events, each at its place in the day.
+pub fn events() -> [DayEvent; EVENTS] {
+    array::from_fn(|index| DayEvent {
+        lot: Lot::ALL[index / Step::ALL.len()],
+        step: Step::ALL[index % Step::ALL.len()],
+    })
 }

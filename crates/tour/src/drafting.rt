@@ -1,8 +1,9 @@
 // Writing the day down: its events, its rules, and two slips of the pen.
-use crate::clock::Clock;
-use crate::day::{ROWS, Row, SLIPS, room_name};
-use crate::refusals;
-use crate::rules::{LONGEST_WAIT, RULES, TOLD, rule};
+use crate::clock::Span;
+use crate::day::{DayEvent, SHELVING, events};
+use crate::refusal::Refused;
+use crate::room::Room;
+use crate::rules::{LONGEST_WAIT, RULES};
 use crate::stop::Stop;
 use bounds::fault::PlanFault;
 use network::draft::Draft;
@@ -12,62 +13,75 @@ use std::io;
 
 // The whole day, with the longest wait of the last lot as a parameter: a draft only takes entries, so
 // tightening a rule means writing the day down again.
-pub fn draft_day(heap: Global, wait: i32) -> Result<Draft, Stop> {
+pub fn draft_day(heap: Global, rye_wait: i32) -> Result<Draft, Stop> {
     let mut draft = Draft::new(heap)?;
-    enter_day(&mut draft, wait)?;
+    enter_day(&mut draft, rye_wait)?;
     Ok(draft)
 }
 
-fn enter_day(draft: &mut Draft, wait: i32) -> Result<(), PlanFault> {
-    for row in &ROWS {
-        let (_, _, room, earliest, latest) = *row;
-        draft.add_event(Event {
-            room,
-            earliest,
-            latest,
-        })?;
+fn enter_day(draft: &mut Draft, rye_wait: i32) -> Result<(), PlanFault> {
+    for event in events() {
+        draft.add_event(event.into())?;
     }
-    for (number, row) in RULES.iter().enumerate() {
-        draft.add_rule(rule(number, *row, wait))?;
+    for rule in &RULES {
+        draft.add_rule(rule.entry(rye_wait))?;
     }
     Ok(())
 }
 
-pub fn show_day(rt: &HostRuntime) -> io::Result<()> {
-    for row in &ROWS {
-        let (_, _, _, earliest, latest) = *row;
-        show_row(rt, *row, Window { earliest, latest })?;
+pub fn show_day(rt: &impl Print) -> io::Result<()> {
+    for event in events() {
+        show_event(rt, event, event.given())?;
     }
     println!(rt; "The rules, where the longest wait is {LONGEST_WAIT} minutes:")?;
-    for words in &TOLD {
-        println!(rt; "  {words}")?;
+    for rule in RULES.iter().filter(|rule| rule.is_told()) {
+        println!(rt; "  {rule}")?;
     }
     Ok(())
 }
 
 // An event of the day with a window, the given one or the one that was found.
-pub fn show_row(rt: &HostRuntime, row: Row, window: Window) -> io::Result<()> {
-    let (lot, step, place, _, _) = row;
-    let room = room_name(place);
-    let first = Clock(window.earliest);
-    let last = Clock(window.latest);
-    println!(rt; "  {lot:<12}  {step:<16}  {room:<9}  {first} to {last}")
+pub fn show_event(rt: &impl Print, event: DayEvent, window: Window) -> io::Result<()> {
+    println!(rt;
+        "  {:<12}  {:<16}  {:<9}  {}",
+        event.lot,
+        event.step,
+        event.room(),
+        Span(window)
+    )
 }
 
-// Two entries that go wrong. A refused entry leaves the draft as it was, so the day can go on.
-pub fn show_slips(rt: &HostRuntime, draft: &mut Draft) -> Result<(), Stop> {
-    for (words, event) in &SLIPS {
-        println!(rt; "{words}")?;
-        match draft.add_event(*event) {
-            Ok(_) => return Err(Stop::Accepted),
-            Err(fault) => refusals::show(rt, &fault)?,
-        }
-    }
+// Two entries that go wrong at the mountain rye's last step.
+pub fn show_slips(rt: &impl Print, draft: &mut Draft) -> Result<(), Stop> {
+    println!(rt; "\nA slip of the pen puts the mountain rye's shelf into room 9:")?;
+    let no_room = Event {
+        room: 9,
+        window: SHELVING,
+    };
+    show_slip(rt, draft, no_room)?;
+    println!(rt; "Another one swaps the two ends of its window:")?;
+    let swapped = Event {
+        room: Room::ColdRoom.into(),
+        window: Window {
+            earliest: SHELVING.latest,
+            latest: SHELVING.earliest,
+        },
+    };
+    show_slip(rt, draft, swapped)?;
     show_counts(rt, draft)?;
     Ok(())
 }
 
-pub fn show_counts(rt: &HostRuntime, draft: &Draft) -> io::Result<()> {
+// A refused entry leaves the draft as it was, so the day can go on.
+fn show_slip(rt: &impl Print, draft: &mut Draft, slip: Event) -> Result<(), Stop> {
+    let Err(fault) = draft.add_event(slip) else {
+        return Err(Stop::Accepted);
+    };
+    println!(rt; "  {}", Refused(fault))?;
+    Ok(())
+}
+
+pub fn show_counts(rt: &impl Print, draft: &Draft) -> io::Result<()> {
     let events = draft.events().len();
     let rules = draft.rules().len();
     let views = draft.views().len();

@@ -1,9 +1,10 @@
 // A seed bank's two days with three lots, from the first entry to the last schedule.
 #![tactic(auto)]
 
-use crate::choosing::{show_choices, show_windows};
+use crate::choosing::show_choices;
 use crate::drafting::{draft_day, show_counts, show_day, show_slips};
 use crate::rules::LONGEST_WAIT;
+use crate::solving::{Solved, show_windows};
 use crate::stop::Stop;
 use crate::tightening::show_tightening;
 use std::alloc::Global;
@@ -12,8 +13,12 @@ mod choosing;
 mod clock;
 mod day;
 mod drafting;
-mod refusals;
+mod lot;
+mod refusal;
+mod room;
 mod rules;
+mod solving;
+mod step;
 mod stop;
 mod tightening;
 
@@ -39,11 +44,12 @@ fn main(rt: HostRuntime) -> Result<(), Stop> {
     Ok(())
 }
 
-fn show_plan(rt: &HostRuntime, heap: Global) -> Result<(), Stop> {
+fn show_plan(rt: &impl Print, heap: Global) -> Result<(), Stop> {
     let mut draft = draft_day(heap, LONGEST_WAIT)?;
     show_counts(rt, &draft)?;
     show_slips(rt, &mut draft)?;
-    let windows = show_windows(rt, &draft)?;
-    show_choices(rt, &draft, &windows)?;
+    let solved = Solved::of(&draft)?;
+    show_windows(rt, &solved)?;
+    show_choices(rt, &draft, &solved)?;
     Ok(())
 }

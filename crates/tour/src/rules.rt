@@ -1,6 +1,10 @@
 // The rules of the day. A rule bounds the minutes from one event to another.
+use crate::day::DayEvent;
+use crate::lot::Lot;
+use crate::step::Step;
 use bounds::gap::Gap;
 use network::tables::Rule;
+use std::fmt;
 
 // A lot waits at most half a day in the intake room, unless the tour tightens that.
 pub const LONGEST_WAIT: i32 = 720;
@@ -12,7 +16,9 @@ const UNPACKING: i32 = 15;
 // closed within half an hour after the drier is opened.
 const SHORTEST_DRYING: i32 = 480;
 
-const DRYING_AND_SEALING: i32 = 600 + 30;
+const LONGEST_DRYING: i32 = 600;
+
+const CLOSING: i32 = 30;
 
 const CARRYING: i32 = 10;
 
@@ -25,70 +31,104 @@ const SWEEPING: i32 = 20;
 const ONE_DAY: i32 = 1_440;
 
 // The catalogue is written in one go, from the first shelved lot to the last.
-const CATALOGUE: i32 = 1_080;
+const CATALOGUE_HOURS: i32 = 18;
 
-// From, to, the least and the most minutes between them.
-pub type Row = (u8, u8, i32, i32);
+#[derive(Clone, Copy)]
+pub enum DayRule {
+    // how long a lot waits in the intake room
+    Waiting(Lot),
+    // how long it lies in the drier, and is open after that
+    Drying(Lot),
+    // how long its sealed bag stands at room temperature
+    Standing(Lot),
+    // the one drier is swept after the first of two lots and before the second
+    Sweeping(Lot, Lot),
+    // the catalogue is written from the first of two lots to the second
+    Cataloguing(Lot, Lot),
+}
 
-// First come the three rules of each lot, from its arrival to
-// its shelf, then the three between lots: they share the one drier, and the catalogue is written in one go.
-pub static RULES: [Row; 12] = [
-    (0, 1, UNPACKING, LONGEST_WAIT),
-    (1, 2, SHORTEST_DRYING, DRYING_AND_SEALING),
-    (2, 3, CARRYING, LONGEST_STANDING),
-    (4, 5, UNPACKING, LONGEST_WAIT),
-    (5, 6, SHORTEST_DRYING, DRYING_AND_SEALING),
-    (6, 7, CARRYING, LONGEST_STANDING),
-    (8, 9, UNPACKING, LONGEST_WAIT),
-    (9, 10, SHORTEST_DRYING, DRYING_AND_SEALING),
-    (10, 11, CARRYING, LONGEST_STANDING),
-    (2, 5, SWEEPING, ONE_DAY),
-    (6, 9, SWEEPING, ONE_DAY),
-    (3, 11, 0, CATALOGUE),
+// First come the three rules of each lot, from its arrival to its shelf, then the three between lots.
+pub static RULES: [DayRule; 12] = [
+    DayRule::Waiting(Lot::Emmer),
+    DayRule::Drying(Lot::Emmer),
+    DayRule::Standing(Lot::Emmer),
+    DayRule::Waiting(Lot::Lupin),
+    DayRule::Drying(Lot::Lupin),
+    DayRule::Standing(Lot::Lupin),
+    DayRule::Waiting(Lot::Rye),
+    DayRule::Drying(Lot::Rye),
+    DayRule::Standing(Lot::Rye),
+    DayRule::Sweeping(Lot::Emmer, Lot::Lupin),
+    DayRule::Sweeping(Lot::Lupin, Lot::Rye),
+    DayRule::Cataloguing(Lot::Emmer, Lot::Rye),
 ];
 
-// The rule that bounds the last lot's wait.
-const RYE_WAITS: usize = 6;
+impl DayRule {
+    // The rule as the draft takes it, with the longest wait of the last lot as a parameter.
+    pub fn entry(self, rye_wait: i32) -> Rule {
+        let (from, to) = self.ends();
+        Rule {
+            from: from.index() as u8,
+            to: to.index() as u8,
+            gap: self.gap(rye_wait),
+        }
+    }
 
-// The rules that the tour lists: those of the first lot, which the other lots have too, and those between lots.
-pub static TOLD: [&str; 6] = [WAITING, DRYING, STANDING, LUPIN_AFTER, RYE_AFTER, LISTED];
+    // Whether the tour tells it: the other lots have the rules of the first lot too, in the same words.
+    pub fn is_told(self) -> bool {
+        match self {
+            Self::Waiting(lot) | Self::Drying(lot) | Self::Standing(lot) => lot == Lot::Emmer,
+            Self::Sweeping(_, _) | Self::Cataloguing(_, _) => true,
+        }
+    }
 
-const WAITING: &str =
-    "a lot enters the drier 15 minutes after its arrival or later, and within its longest wait";
+    fn ends(self) -> (DayEvent, DayEvent) {
+        match self {
+            Self::Waiting(lot) => (lot.at(Step::Arrives), lot.at(Step::Dries)),
+            Self::Drying(lot) => (lot.at(Step::Dries), lot.at(Step::Sealed)),
+            Self::Standing(lot) => (lot.at(Step::Sealed), lot.at(Step::Shelved)),
+            Self::Sweeping(one, next) => (one.at(Step::Sealed), next.at(Step::Dries)),
+            Self::Cataloguing(one, last) => (one.at(Step::Shelved), last.at(Step::Shelved)),
+        }
+    }
 
-const DRYING: &str =
-    "a lot dries for 480 to 600 minutes and is sealed within 30 minutes of leaving the drier";
-
-const STANDING: &str = "a sealed lot is shelved 10 to 60 minutes later";
-
-const LUPIN_AFTER: &str =
-    "the wild lupin enters the drier 20 minutes after the emmer wheat is sealed, or later";
-
-const RYE_AFTER: &str =
-    "the mountain rye enters the drier 20 minutes after the wild lupin is sealed, or later";
-
-const LISTED: &str = "the mountain rye is shelved after the emmer wheat, within 18 hours";
-
-// The rule of a row, with the longest wait of the last lot as a parameter.
-pub fn rule(number: usize, row: Row, wait: i32) -> Rule {
-    let (from, to, least, longest) = row;
-    let most = if number == RYE_WAITS { wait } else { longest };
-    Rule {
-        from,
-        to,
-        gap: Gap { least, most },
+    fn gap(self, rye_wait: i32) -> Gap {
+        let (least, most) = match self {
+            Self::Waiting(Lot::Rye) => (UNPACKING, rye_wait),
+            Self::Waiting(_) => (UNPACKING, LONGEST_WAIT),
+            Self::Drying(_) => (SHORTEST_DRYING, LONGEST_DRYING + CLOSING),
+            Self::Standing(_) => (CARRYING, LONGEST_STANDING),
+            Self::Sweeping(_, _) => (SWEEPING, ONE_DAY),
+            Self::Cataloguing(_, _) => (0, CATALOGUE_HOURS * 60),
+        };
+        Gap { least, most }
     }
 }
 
-// A rule in words, by its number in the draft.
-pub fn words(rule: u8) -> &'static str {
-    match rule {
-        0 | 3 | 6 => WAITING,
-        1 | 4 | 7 => DRYING,
-        2 | 5 | 8 => STANDING,
-        9 => LUPIN_AFTER,
-        10 => RYE_AFTER,
-        11 => LISTED,
-        _ => "no rule of this day",
+impl fmt::Display for DayRule {
+    fn fmt<W: fmt::Write>(&self, f: &mut fmt::Formatter<W>) -> fmt::Result {
+        let (from, to) = self.ends();
+        match self {
+            Self::Waiting(_) => write!(
+                f,
+                "a lot enters the drier {UNPACKING} minutes after its arrival or later, and within its longest wait"
+            ),
+            Self::Drying(_) => write!(
+                f,
+                "a lot dries for {SHORTEST_DRYING} to {LONGEST_DRYING} minutes and is sealed within {CLOSING} minutes of leaving the drier"
+            ),
+            Self::Standing(_) => write!(
+                f,
+                "a sealed lot is shelved {CARRYING} to {LONGEST_STANDING} minutes later"
+            ),
+            Self::Sweeping(_, _) => write!(
+                f,
+                "the {to} {SWEEPING} minutes after the {from}, or later"
+            ),
+            Self::Cataloguing(one, _) => write!(
+                f,
+                "the {to} after the {one}, within {CATALOGUE_HOURS} hours"
+            ),
+        }
     }
 }

@@ -14,6 +14,7 @@ pub enum Stop {
     Accepted,
 }
 
+// Kept: From by hand. A derived one (tried) holds the io::Error, whose text takes one more C function on trust.
 impl From<AllocError> for Stop {
     fn from(_e: AllocError) -> Stop {
         Stop::Memory

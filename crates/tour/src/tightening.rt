@@ -1,44 +1,35 @@
 // One rule made tighter, hour by hour, until no schedule is left.
-use crate::choosing::{UNKNOWN, window_of};
-use crate::clock::Clock;
-use crate::day::RYE_DRIES;
+use crate::clock::Span;
 use crate::drafting::draft_day;
-use crate::refusals;
+use crate::lot::Lot;
+use crate::refusal::Refused;
+use crate::rules::LONGEST_WAIT;
+use crate::solving::Solved;
+use crate::step::Step;
 use crate::stop::Stop;
-use network::solve::solve;
-use network::tables::Window;
 use std::alloc::Global;
 use std::io;
 
-// The longest waits in the intake room that are tried for the last lot, in minutes.
-const WAITS: [i32; 7] = [720, 660, 600, 540, 480, 420, 360];
+// The shortest of the longest waits in the intake room that are tried for the last lot, in minutes.
+const SHORTEST_TRIED: i32 = 360;
 
-pub fn show_tightening(rt: &HostRuntime, heap: Global) -> Result<(), Stop> {
+pub fn show_tightening(rt: &impl Print, heap: Global) -> Result<(), Stop> {
     println!(rt; "\nHow long must the mountain rye be allowed to wait for the drier?")?;
-    for wait in WAITS {
+    for wait in (SHORTEST_TRIED..=LONGEST_WAIT).rev().step_by(60) {
         println!(rt; "At most {wait} minutes:")?;
-        match drier_window(heap, wait) {
-            Ok(window) => show_drier(rt, window)?,
-            Err(Stop::Refused(fault)) => {
-                refusals::show(rt, &fault)?;
+        let draft = draft_day(heap, wait)?;
+        match Solved::of(&draft) {
+            Ok(solved) => show_drier(rt, &solved)?,
+            Err(fault) => {
+                println!(rt; "  {}", Refused(fault))?;
                 return Ok(());
             }
-            Err(stop) => return Err(stop),
         }
     }
     Err(Stop::Accepted)
 }
 
-// When the last lot enters the drier if it may wait so long, or why no schedule is left.
-fn drier_window(heap: Global, wait: i32) -> Result<Window, Stop> {
-    let draft = draft_day(heap, wait)?;
-    let mut windows = UNKNOWN;
-    solve(&draft, &mut windows)?;
-    Ok(window_of(&windows, RYE_DRIES))
-}
-
-fn show_drier(rt: &HostRuntime, window: Window) -> io::Result<()> {
-    let first = Clock(window.earliest);
-    let last = Clock(window.latest);
-    println!(rt; "  It enters the drier {first} to {last}.")
+fn show_drier(rt: &impl Print, solved: &Solved) -> io::Result<()> {
+    let window = solved.window(Lot::Rye.at(Step::Dries));
+    println!(rt; "  It enters the drier {}.", Span(window))
 }
