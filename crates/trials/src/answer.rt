@@ -1,95 +1,67 @@
 // What the library answers, in one form for what it gives and for what is expected of it. Only this file calls the
 // library with something to answer, so that its long promises are read in few places.
-use bounds::fault::{PlanFault, Refusal};
-use bounds::gap::Gap;
+use crate::entry::Entry;
+use bounds::fault::{Mark, PlanFault, Refusal};
 use network::check::check;
 use network::draft::Draft;
 use network::solve::solve;
-use network::tables::{Event, Rule, Window};
+use network::tables::Window;
 
 // The place of a refusal that points at nothing.
+// Kept: 255 by the specification, and a number of the trials' own, so that a wrong one in the library differs.
 pub const NOWHERE: u8 = 255;
 
 // The layer of the plan's refusals.
+// Kept: layers are numbers by the specification.
 const PLAN_LAYER: u8 = 2;
 
+// The number of the row for an entry and the number of rounds for a solution, or the refusal.
+pub type Answer = Result<u8, Fault>;
+
+// Kept: the specification fixes the numbers, so these are compared, and no case of the library's.
 #[derive(Clone, Copy, PartialEq, Eq)]
-pub enum Answer {
-    // went well, with the number of the row for an entry and the number of rounds for a solution
-    Fine(u8),
+pub enum Fault {
     // refused by the plan, with this number and at this place
     Refused(u8, u8),
     // barred at this event, by this cause
     Barred(u8, u8),
-    // refused by a layer that the trials never come to
+    // refused by a layer that the trials never come to, or barred at another event than is told
     Strange,
 }
 
-fn refusal(fault: PlanFault) -> Answer {
-    if fault.layer() == PLAN_LAYER {
-        Answer::Refused(fault.number(), fault.place())
-    } else {
-        Answer::Strange
+impl From<PlanFault> for Fault {
+    fn from(fault: PlanFault) -> Fault {
+        let Mark {
+            number,
+            layer,
+            place,
+        } = fault.mark();
+        if layer != PLAN_LAYER {
+            return Fault::Strange;
+        }
+        match fault {
+            // A plan without a schedule is refused with 18 at the event of its bar.
+            PlanFault::NoSchedule(bar) if number == 18 && place == bar.event => {
+                Fault::Barred(bar.event, bar.cause.number())
+            }
+            PlanFault::NoSchedule(_) => Fault::Strange,
+            _ => Fault::Refused(number, place),
+        }
     }
-}
-
-// An entry of a plan.
-#[derive(Clone, Copy)]
-pub enum Entry {
-    // a room, an earliest and a latest minute
-    Event(u8, u32, u32),
-    // from, to and the gap between them
-    Rule(u8, u8, Gap),
 }
 
 pub fn enter(draft: &mut Draft, entry: Entry) -> Answer {
-    let answer = match entry {
-        Entry::Event(room, earliest, latest) => draft.add_event(Event {
-            room,
-            earliest,
-            latest,
-        }),
-        Entry::Rule(from, to, gap) => draft.add_rule(Rule { from, to, gap }),
+    let row = match entry {
+        Entry::Event(event) => draft.add_event(event)?,
+        Entry::Rule(rule) => draft.add_rule(rule)?,
     };
-    match answer {
-        Ok(row) => Answer::Fine(row),
-        Err(fault) => refusal(fault),
-    }
+    Ok(row)
 }
 
 pub fn solved(draft: &Draft, windows: &mut [Window]) -> Answer {
-    match solve(draft, windows) {
-        Ok(solution) => Answer::Fine(solution.rounds),
-        Err(fault) => bar_or_refusal(fault),
-    }
+    Ok(solve(draft, windows)?.rounds)
 }
 
-// A plan without a schedule is refused with 18 at the event of its bar.
-fn bar_or_refusal(fault: PlanFault) -> Answer {
-    match fault {
-        PlanFault::NoSchedule(bar) => {
-            if refusal(fault) == Answer::Refused(18, bar.event) {
-                Answer::Barred(bar.event, bar.cause.number())
-            } else {
-                Answer::Strange
-            }
-        }
-        _ => refusal(fault),
-    }
-}
-
-pub fn checked(draft: &Draft, minutes: &[u32]) -> Answer {
-    match check(draft, minutes) {
-        Ok(()) => Answer::Fine(0),
-        Err(fault) => refusal(fault),
-    }
-}
-
-// How many events, rules and views the draft holds.
-pub fn sizes(draft: &Draft) -> [usize; 3] {
-    [
-        draft.events().len(),
-        draft.rules().len(),
-        draft.views().len(),
-    ]
+pub fn checked(draft: &Draft, minutes: &[u32]) -> Result<(), Fault> {
+    Ok(check(draft, minutes)?)
 }

@@ -1,8 +1,10 @@
 // The trials' own copy of a plan, and what they expect each entry to answer.
-use crate::answer::{Answer, Entry, NOWHERE};
+use crate::answer::Fault::{self, Refused};
+use crate::answer::{Answer, NOWHERE};
+use crate::entry::Entry;
 use bounds::gap::Gap;
-use network::tables::{Event, Rule};
-use std::alloc::Global;
+use network::tables::{Event, Rule, View, Window};
+use std::alloc::{AllocError, Global};
 
 pub const LAST: u32 = 527_040;
 
@@ -10,142 +12,121 @@ pub const MOST_EVENTS: usize = 64;
 
 const MOST_RULES: usize = 128;
 
-const MOST_VIEWS: u32 = 64;
+const MOST_VIEWS: usize = 64;
 
 const FARTHEST: i32 = 527_040;
+
+// The refusal for too many views.
+const CROWDED: Fault = Refused(8, NOWHERE);
 
 #[derive(Drop)]
 pub struct Book {
     pub events: Vec<Event>,
     pub rules: Vec<Rule>,
-    // for each event, the rooms that have a view of it: one bit for each room
-    pub seen: Seen,
+    pub views: Vec<View>,
     // entries that were refused, and how many of these for want of views
     pub refused: u32,
     pub crowded: u32,
 }
-
-pub type Seen = [u8; MOST_EVENTS];
 
 impl Book {
     pub fn new(heap: Global) -> Book {
         Book {
             events: Vec::new(heap),
             rules: Vec::new(heap),
-            seen: [0; MOST_EVENTS],
+            views: Vec::new(heap),
             refused: 0,
             crowded: 0,
         }
     }
 
     // Writes the entry down if it ought to be accepted, and says what it ought to answer.
-    pub fn enter(&mut self, entry: Entry) -> Answer {
-        match entry {
-            Entry::Event(room, earliest, latest) => self.enter_event(Event {
-                room,
-                earliest,
-                latest,
-            }),
-            Entry::Rule(from, to, gap) => self.enter_rule(Rule { from, to, gap }),
+    pub fn enter(&mut self, entry: Entry) -> Result<Answer, AllocError> {
+        let answer = match entry {
+            Entry::Event(event) => self.enter_event(event)?,
+            Entry::Rule(rule) => self.enter_rule(rule)?,
+        };
+        if let Err(fault) = answer {
+            self.count(fault);
         }
+        Ok(answer)
     }
 
-    fn enter_event(&mut self, event: Event) -> Answer {
-        let row = self.events.len();
-        if event.room > 7 {
-            return self.refuse(1, event.room);
+    fn enter_event(&mut self, event: Event) -> Result<Answer, AllocError> {
+        let answer = self.event_answer(event);
+        if answer.is_ok() {
+            self.events.push(event)?;
         }
-        if event.latest > LAST || event.latest < event.earliest {
-            return self.refuse(2, NOWHERE);
-        }
-        if row >= MOST_EVENTS {
-            return self.refuse(3, NOWHERE);
-        }
-        if self.events.push(event).is_err() {
-            return Answer::Strange;
-        }
-        Answer::Fine(row_number(row))
+        Ok(answer)
     }
 
-    fn enter_rule(&mut self, rule: Rule) -> Answer {
-        let row = self.rules.len();
-        let (number, place) = self.refusal(rule);
-        if number > 0 {
-            return self.refuse(number, place);
+    fn enter_rule(&mut self, rule: Rule) -> Result<Answer, AllocError> {
+        let wanted = self.wanted(rule);
+        let answer = self.rule_answer(rule, wanted.iter().flatten().count());
+        if answer.is_ok() {
+            self.views.extend(wanted.into_iter().flatten())?;
+            self.rules.push(rule)?;
         }
-        let seen = self.seen_after(rule);
-        if views_of(&seen) > MOST_VIEWS {
-            self.crowded = self.crowded.saturating_add(1);
-            return self.refuse(8, NOWHERE);
-        }
-        if self.rules.push(rule).is_err() {
-            return Answer::Strange;
-        }
-        self.seen = seen;
-        Answer::Fine(row_number(row))
+        Ok(answer)
     }
 
-    fn refuse(&mut self, number: u8, place: u8) -> Answer {
+    fn count(&mut self, fault: Fault) {
         self.refused = self.refused.saturating_add(1);
-        Answer::Refused(number, place)
+        if fault == CROWDED {
+            self.crowded = self.crowded.saturating_add(1);
+        }
     }
 
-    // The first question before the one for its views that a rule fails, as a number and a place, or the number 0.
-    fn refusal(&self, rule: Rule) -> (u8, u8) {
-        let events = self.events.len();
-        if usize::from(rule.from) >= events {
-            return (4, rule.from);
+    fn event_answer(&self, event: Event) -> Answer {
+        let row = self.events.len();
+        let Window { earliest, latest } = event.window;
+        if event.room > 7 {
+            Err(Refused(1, event.room))
+        } else if latest > LAST || latest < earliest {
+            Err(Refused(2, NOWHERE))
+        } else if row >= MOST_EVENTS {
+            Err(Refused(3, NOWHERE))
+        } else {
+            Ok(row as u8)
         }
-        if usize::from(rule.to) >= events {
-            return (4, rule.to);
-        }
-        if rule.from == rule.to {
-            return (5, rule.from);
-        }
+    }
+
+    // The rule wants so many new views.
+    fn rule_answer(&self, rule: Rule, wanted: usize) -> Answer {
+        self.known(rule.from)?;
+        self.known(rule.to)?;
+        let row = self.rules.len();
         let Gap { least, most } = rule.gap;
-        if least < -FARTHEST || most < least || most > FARTHEST {
-            return (6, NOWHERE);
-        }
-        if self.rules.len() >= MOST_RULES {
-            return (7, NOWHERE);
-        }
-        (0, NOWHERE)
-    }
-
-    // With the two views that a rule needs where it leads from one room to another.
-    fn seen_after(&self, rule: Rule) -> Seen {
-        let mut seen = self.seen;
-        let from_room = self.room(rule.from);
-        let to_room = self.room(rule.to);
-        if from_room != to_room {
-            show(&mut seen, rule.from, to_room);
-            show(&mut seen, rule.to, from_room);
-        }
-        seen
-    }
-
-    fn room(&self, event: u8) -> u8 {
-        match self.events.get(usize::from(event)) {
-            Some(row) => row.room,
-            None => 0,
+        if rule.from == rule.to {
+            Err(Refused(5, rule.from))
+        } else if least < -FARTHEST || most < least || most > FARTHEST {
+            Err(Refused(6, NOWHERE))
+        } else if row >= MOST_RULES {
+            Err(Refused(7, NOWHERE))
+        } else if self.views.len().saturating_add(wanted) > MOST_VIEWS {
+            Err(CROWDED)
+        } else {
+            Ok(row as u8)
         }
     }
-}
 
-fn show(seen: &mut Seen, event: u8, room: u8) {
-    if let Some(rooms) = seen.get_mut(usize::from(event)) {
-        *rooms |= 1u8 << (room % 8);
+    fn known(&self, event: u8) -> Result<&Event, Fault> {
+        self.events.get(usize::from(event)).ok_or(Refused(4, event))
     }
-}
 
-pub fn views_of(seen: &Seen) -> u32 {
-    let mut views: u32 = 0;
-    for rooms in seen {
-        views = views.saturating_add(rooms.count_ones());
+    // The views that the rule needs and that are not there yet.
+    fn wanted(&self, rule: Rule) -> [Option<View>; 2] {
+        [
+            self.wanted_view(rule.from, rule.to),
+            self.wanted_view(rule.to, rule.from),
+        ]
     }
-    views
-}
 
-fn row_number(row: usize) -> u8 {
-    u8::try_from(row).unwrap_or(NOWHERE)
+    // The view of an event in the room of another one, where that is another room and has no view of it yet.
+    fn wanted_view(&self, event: u8, other: u8) -> Option<View> {
+        let home = self.known(event).ok()?.room;
+        let room = self.known(other).ok()?.room;
+        let view = View { event, room };
+        (room != home && !self.views.contains(&view)).then_some(view)
+    }
 }

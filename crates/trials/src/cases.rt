@@ -1,23 +1,23 @@
 // Small plans whose windows were worked out by hand, and choices of minutes for one of them.
-use crate::answer::Answer::{Barred, Fine, Refused};
-use crate::answer::Entry::{Event, Rule};
+use crate::answer::Fault::{Barred, Refused};
 use crate::answer::NOWHERE;
 use crate::hand::Act::{Check, Plan, Solve};
 use crate::hand::Case;
+use crate::hand::Row::{Event, Rule};
 use crate::list::PLACES;
 use bounds::gap::Gap;
 
-static NONE: [Case; 1] = [(Solve(PLACES, Fine(1), &[]), "no event: one round")];
+const NONE: &[Case] = &[(Solve(PLACES, Ok(1), &[]), "no event: one round")];
 
-static ALONE: [Case; 2] = [
+const ALONE: &[Case] = &[
     (Plan(&[Event(0, 5, 5)]), "one event is accepted"),
     (
-        Solve(PLACES, Fine(1), &[(5, 5)]),
+        Solve(PLACES, Ok(1), &[(5, 5)]),
         "one event: its window, one round",
     ),
 ];
 
-static PAIR: [Case; 8] = [
+const PAIR: &[Case] = &[
     (
         Plan(&[
             Event(0, 0, 100),
@@ -34,33 +34,33 @@ static PAIR: [Case; 8] = [
         "a pair of events and a rule are accepted",
     ),
     (
-        Solve(PLACES, Fine(2), &[(0, 30), (30, 60)]),
+        Solve(PLACES, Ok(2), &[(0, 30), (30, 60)]),
         "a pair: 0..30 and 30..60, two rounds",
     ),
     (
-        Solve(1, Refused(17, NOWHERE), &[]),
+        Solve(1, Err(Refused(17, NOWHERE)), &[]),
         "one place is too few for two windows, and it is not written",
     ),
     (
-        Solve(2, Fine(2), &[(0, 30), (30, 60)]),
+        Solve(2, Ok(2), &[(0, 30), (30, 60)]),
         "two places are enough for two windows",
     ),
-    (Check(&[0, 30], Fine(0)), "minutes 0 and 30 are a schedule"),
+    (Check(&[0, 30], Ok(())), "minutes 0 and 30 are a schedule"),
     (
-        Check(&[31, 60], Refused(20, 0)),
+        Check(&[31, 60], Err(Refused(20, 0))),
         "minutes 31 and 60 break rule 0",
     ),
     (
-        Check(&[101, 60], Refused(19, 0)),
+        Check(&[101, 60], Err(Refused(19, 0))),
         "minute 101 lies outside the window of event 0",
     ),
     (
-        Check(&[0], Refused(17, NOWHERE)),
+        Check(&[0], Err(Refused(17, NOWHERE))),
         "one minute is too few for two events",
     ),
 ];
 
-static POINT: [Case; 2] = [
+const POINT: &[Case] = &[
     (
         Plan(&[
             Event(0, 0, 10),
@@ -77,12 +77,12 @@ static POINT: [Case; 2] = [
         "ten minutes or more in ten are accepted",
     ),
     (
-        Solve(PLACES, Fine(2), &[(0, 0), (10, 10)]),
+        Solve(PLACES, Ok(2), &[(0, 0), (10, 10)]),
         "one schedule is left: 0..0 and 10..10",
     ),
 ];
 
-static SAME: [Case; 2] = [
+const SAME: &[Case] = &[
     (
         Plan(&[
             Event(0, 3, 9),
@@ -92,12 +92,12 @@ static SAME: [Case; 2] = [
         "a rule for the same minute is accepted",
     ),
     (
-        Solve(PLACES, Fine(2), &[(5, 9), (5, 9)]),
+        Solve(PLACES, Ok(2), &[(5, 9), (5, 9)]),
         "the same minute: 5..9 twice",
     ),
 ];
 
-static BEFORE: [Case; 2] = [
+const BEFORE: &[Case] = &[
     (
         Plan(&[
             Event(0, 10, 20),
@@ -114,12 +114,12 @@ static BEFORE: [Case; 2] = [
         "a rule that leads back is accepted",
     ),
     (
-        Solve(PLACES, Fine(2), &[(10, 15), (0, 5)]),
+        Solve(PLACES, Ok(2), &[(10, 15), (0, 5)]),
         "ten minutes before: 10..15 and 0..5",
     ),
 ];
 
-static STILL: [Case; 2] = [
+const STILL: &[Case] = &[
     (
         Plan(&[
             Event(0, 0, 0),
@@ -136,12 +136,12 @@ static STILL: [Case; 2] = [
         "two events of minute 0 are accepted",
     ),
     (
-        Solve(PLACES, Fine(1), &[(0, 0), (0, 0)]),
+        Solve(PLACES, Ok(1), &[(0, 0), (0, 0)]),
         "a rule as wide as can be: both 0..0",
     ),
 ];
 
-static FAR: [Case; 2] = [
+const FAR: &[Case] = &[
     (
         Plan(&[
             Event(0, 0, 10),
@@ -158,12 +158,12 @@ static FAR: [Case; 2] = [
         "eleven minutes in ten are accepted",
     ),
     (
-        Solve(PLACES, Barred(0, 1), &[]),
+        Solve(PLACES, Err(Barred(0, 1)), &[]),
         "eleven minutes in ten: barred at event 0 by cause 1",
     ),
 ];
 
-static ODD: [Case; 2] = [
+const ODD: &[Case] = &[
     (
         Plan(&[
             Event(0, 0, 527_040),
@@ -174,13 +174,13 @@ static ODD: [Case; 2] = [
         "two rules between the same events are accepted",
     ),
     (
-        Solve(PLACES, Barred(0, 2), &[]),
+        Solve(PLACES, Err(Barred(0, 2)), &[]),
         "five and six minutes at once: barred at event 0 by cause 2",
     ),
 ];
 
 // Both ends of event 2 come over two rules, one fewer than there are events, and are held.
-static TWO_LINKS: [Case; 2] = [
+const TWO_LINKS: &[Case] = &[
     (
         Plan(&[
             Event(0, 5, 5),
@@ -192,7 +192,7 @@ static TWO_LINKS: [Case; 2] = [
         "a chain of three events is accepted",
     ),
     (
-        Solve(PLACES, Fine(2), &[(5, 5), (6, 6), (7, 7)]),
+        Solve(PLACES, Ok(2), &[(5, 5), (6, 6), (7, 7)]),
         "ends over two rules are held among three events: 5..5, 6..6 and 7..7",
     ),
 ];
@@ -204,7 +204,7 @@ static TWO_LINKS: [Case; 2] = [
 //   rule 2: the latest of event 2 becomes (Y - 1, 2), and the earliest of event 0 would become (1, 3).
 // That is above 0 and not past Y - 1, and its links are as many as the events: barred there by cause 2.
 // Were two links enough to bar, it would be at event 2, and were four needed, at event 1 in round 2.
-static THREE_LINKS: [Case; 2] = [
+const THREE_LINKS: &[Case] = &[
     (
         Plan(&[
             Event(0, 0, 527_040),
@@ -238,25 +238,21 @@ static THREE_LINKS: [Case; 2] = [
         "a cycle of three rules is accepted",
     ),
     (
-        Solve(PLACES, Barred(0, 2), &[]),
+        Solve(PLACES, Err(Barred(0, 2)), &[]),
         "an end over three rules bars among three events: at event 0 by cause 2",
     ),
 ];
 
-pub const TABLES: u8 = 11;
-
-pub fn table(number: u8) -> &'static [Case] {
-    match number {
-        0 => &NONE,
-        1 => &ALONE,
-        2 => &PAIR,
-        3 => &POINT,
-        4 => &SAME,
-        5 => &BEFORE,
-        6 => &STILL,
-        7 => &FAR,
-        8 => &ODD,
-        9 => &TWO_LINKS,
-        _ => &THREE_LINKS,
-    }
-}
+pub static TABLES: [&[Case]; 11] = [
+    NONE,
+    ALONE,
+    PAIR,
+    POINT,
+    SAME,
+    BEFORE,
+    STILL,
+    FAR,
+    ODD,
+    TWO_LINKS,
+    THREE_LINKS,
+];

@@ -1,127 +1,95 @@
-// The library's check held to a naive one, on choices of minutes that are right, nearly right and random.
-use crate::answer::{Answer, NOWHERE, checked};
-use crate::book::Book;
-use crate::list::{List, PLACES, put};
+// The library's check held to the naive one, on choices of minutes that are right, nearly right and random.
+use crate::answer::Fault::{self, Refused};
+use crate::answer::checked;
+use crate::list::PLACES;
+use crate::naive::naive;
 use crate::random::Random;
-use network::draft::Draft;
-use network::tables::{Event, Rule};
+use crate::trial::Trial;
+use crate::trouble::{Trouble, ensure};
+use network::tables::{Event, Window};
+use std::alloc::{AllocError, Global};
 
-type Minutes = [u32; PLACES];
-
-// The first event that lies outside its given window, else the first rule that does not hold.
-fn naive(book: &Book, minutes: &[u32]) -> Answer {
-    if minutes.len() < book.events.len() {
-        return Answer::Refused(17, NOWHERE);
+impl Trial {
+    // In a plan with a schedule: all earliest minutes, all latest ones, and the earliest ones with one event moved out
+    // of its given window.
+    pub fn try_ends(&self, list: &[Window], random: &mut Random) -> Result<(), Trouble> {
+        // Kept: no `as u8`, since no type bounds the book's rows.
+        let event = random.byte_below(u8::try_from(self.book.events.len()).unwrap_or(0));
+        let earliest: Vec<u32> = list
+            .iter()
+            .map(|window| window.earliest)
+            .collect(self.heap)?;
+        let latest: Vec<u32> = list.iter().map(|window| window.latest).collect(self.heap)?;
+        self.expect_both(earliest.as_slice(), Ok(()))?;
+        self.expect_both(latest.as_slice(), Ok(()))?;
+        self.try_outside(earliest, event)
     }
-    for (x, event) in book.events.iter().enumerate() {
-        let minute = minute_of(minutes, x);
-        if !(event.earliest <= minute && minute <= event.latest) {
-            return Answer::Refused(19, u8::try_from(x).unwrap_or(NOWHERE));
-        }
-    }
-    for (k, rule) in book.rules.iter().enumerate() {
-        if !keeps(rule, minutes) {
-            return Answer::Refused(20, u8::try_from(k).unwrap_or(NOWHERE));
-        }
-    }
-    Answer::Fine(0)
-}
 
-fn keeps(rule: &Rule, minutes: &[u32]) -> bool {
-    let from = i64::from(minute_of(minutes, usize::from(rule.from)));
-    let to = i64::from(minute_of(minutes, usize::from(rule.to)));
-    let soonest = from.saturating_add(i64::from(rule.gap.least));
-    let last = from.saturating_add(i64::from(rule.gap.most));
-    soonest <= to && to <= last
-}
-
-fn minute_of(minutes: &[u32], event: usize) -> u32 {
-    minutes.get(event).copied().unwrap_or(0)
-}
-
-// Whether both answer in this way.
-fn answer_so(draft: &Draft, book: &Book, minutes: &[u32], answer: Answer) -> bool {
-    checked(draft, minutes) == answer && naive(book, minutes) == answer
-}
-
-// In a plan with a schedule: all earliest minutes, all latest ones, and the earliest ones with one event moved out of
-// its given window.
-pub fn ends_agree(draft: &Draft, book: &Book, list: &List, random: &mut Random) -> bool {
-    let event = random.byte_below(u8::try_from(book.events.len()).unwrap_or(0));
-    answer_so(draft, book, &all(list, false), Answer::Fine(0))
-        && answer_so(draft, book, &all(list, true), Answer::Fine(0))
-        && outside_agrees(draft, book, list, event)
-}
-
-fn outside_agrees(draft: &Draft, book: &Book, list: &List, event: u8) -> bool {
-    let Some(row) = book.events.get(usize::from(event)) else {
-        return true;
-    };
-    // Minute 0 has none before it, so there the minute after the window stands in for it.
-    let after = row.latest.saturating_add(1);
-    let before = row.earliest.checked_sub(1).unwrap_or(after);
-    for minute in [after, before] {
-        let minutes = moved(list, event, minute);
-        if !answer_so(draft, book, &minutes, Answer::Refused(19, event)) {
-            return false;
-        }
-    }
-    true
-}
-
-// All latest minutes of the windows, or all earliest ones.
-fn all(list: &List, latest: bool) -> Minutes {
-    let mut minutes = [0; PLACES];
-    for (x, window) in list.iter().enumerate() {
-        let minute = if latest {
-            window.latest
-        } else {
-            window.earliest
+    fn try_outside(&self, mut minutes: Vec<u32>, event: u8) -> Result<(), Trouble> {
+        let Some(row) = self.book.events.get(usize::from(event)) else {
+            return Ok(());
         };
-        put(&mut minutes, x, minute);
-    }
-    minutes
-}
-
-fn moved(list: &List, event: u8, minute: u32) -> Minutes {
-    let mut minutes = all(list, false);
-    put(&mut minutes, usize::from(event), minute);
-    minutes
-}
-
-// In any plan: random minutes, and the same ones with a place too few.
-pub fn choices_agree(draft: &Draft, book: &Book, random: &mut Random) -> bool {
-    let few = book.events.len().saturating_sub(1);
-    for _ in 0..4 {
-        let minutes = draw_minutes(book.events.as_slice(), random);
-        if !agree(draft, book, &minutes) || !agree(draft, book, first(&minutes, few)) {
-            return false;
+        let given = row.window;
+        // Minute 0 has none before it, so there the minute after the window stands in for it.
+        let after = given.latest.saturating_add(1);
+        let before = given.earliest.checked_sub(1).unwrap_or(after);
+        for minute in [after, before] {
+            if let Some(place) = minutes.get_mut(usize::from(event)) {
+                *place = minute;
+            }
+            self.expect_both(minutes.as_slice(), Err(Refused(19, event)))?;
         }
+        Ok(())
     }
-    true
+
+    fn expect_both(&self, minutes: &[u32], answer: Result<(), Fault>) -> Result<(), Trouble> {
+        ensure(
+            checked(&self.draft, minutes) == answer && naive(&self.book, minutes) == answer,
+            "check has another answer than expected at the ends of the windows",
+        )
+    }
+
+    // In any plan: random minutes with a place too few, and with places to spare.
+    pub fn try_choices(&self, random: &mut Random) -> Result<(), Trouble> {
+        for _ in 0..4 {
+            let mut minutes = draw_minutes(self.heap, self.book.events.as_slice(), random)?;
+            let few = minutes.len().saturating_sub(1);
+            if let Some(few) = minutes.as_slice().get(0..few) {
+                self.compare_checks(few)?;
+            }
+            minutes.resize(PLACES, 0)?;
+            self.compare_checks(minutes.as_slice())?;
+        }
+        Ok(())
+    }
+
+    fn compare_checks(&self, minutes: &[u32]) -> Result<(), Trouble> {
+        ensure(
+            checked(&self.draft, minutes) == naive(&self.book, minutes),
+            "check has another answer than the naive check",
+        )
+    }
 }
 
-fn agree(draft: &Draft, book: &Book, minutes: &[u32]) -> bool {
-    checked(draft, minutes) == naive(book, minutes)
-}
-
-fn first(minutes: &Minutes, places: usize) -> &[u32] {
-    minutes.get(0..places).unwrap_or(minutes)
-}
-
-// Minutes within the given windows, now and then one of them anywhere.
-fn draw_minutes(events: &[Event], random: &mut Random) -> Minutes {
-    let mut minutes = [0; PLACES];
+fn draw_minutes(
+    heap: Global,
+    events: &[Event],
+    random: &mut Random,
+) -> Result<Vec<u32>, AllocError> {
     let astray = random.one_in(3);
-    for (x, event) in events.iter().enumerate() {
-        let span = event.latest.saturating_sub(event.earliest);
-        let within = random.below(span.saturating_add(1));
-        let minute = if astray && random.one_in(16) {
-            random.bits() % 600_000
-        } else {
-            event.earliest.saturating_add(within)
-        };
-        put(&mut minutes, x, minute);
+    events
+        .iter()
+        .map(|event| draw_minute(event, astray, random))
+        .collect(heap)
+}
+
+// A minute within the given window, or now and then anywhere.
+fn draw_minute(event: &Event, astray: bool, random: &mut Random) -> u32 {
+    let given = event.window;
+    let within = random.up_to(given.latest.saturating_sub(given.earliest));
+    if astray && random.one_in(16) {
+        random.bits() % 600_000
+    } else {
+        given.earliest.saturating_add(within)
     }
-    minutes
 }

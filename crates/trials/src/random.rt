@@ -1,4 +1,7 @@
 // A small source of numbers that a seed fixes for ever, so that a trial that fails can be run again.
+ghost use Rattle.std.specs.Prelude.{◌<◌};
+
+// Kept: a generator of the library would draw other plans than those whose outcome is stored.
 #[derive(Drop)]
 pub struct Random {
     state: u64,
@@ -27,7 +30,10 @@ impl Random {
         if n == 0 { 0 } else { self.bits() % n }
     }
 
-    pub fn byte_below(&mut self, n: u8) -> u8 {
+    // Kept: a byte is cut from the bits before it is brought below n, so one generic function would draw other numbers.
+    pub fn byte_below(&mut self, n: u8) -> u8
+        ensures { 0 < n → result < n }
+    {
         if n == 0 {
             0
         } else {
@@ -36,11 +42,15 @@ impl Random {
     }
 
     // A number from 0 to n, which is both included.
-    pub fn up_to(&mut self, n: u32) -> i64 {
-        i64::from(self.below(n.saturating_add(1)))
+    pub fn up_to(&mut self, n: u32) -> u32 {
+        self.below(n.saturating_add(1))
     }
 
     pub fn one_in(&mut self, n: u32) -> bool {
         self.below(n) == 0
+    }
+
+    pub fn pick(&mut self, from: &[u32; 6]) -> u32 {
+        from[usize::from(self.byte_below(6))]
     }
 }

@@ -1,12 +1,12 @@
 // What the random plans were like and how they came out.
-use crate::answer::Answer;
+use crate::answer::{Answer, Fault};
 use crate::book::Book;
-use std::io;
+use std::fmt;
 
 // From so many events on a plan counts as large.
 const LARGE: usize = 48;
 
-#[derive(Drop)]
+#[derive(Default, Drop)]
 pub struct Tally {
     pub plans: u32,
     scheduled: u32,
@@ -20,20 +20,6 @@ pub struct Tally {
 }
 
 impl Tally {
-    pub fn new() -> Tally {
-        Tally {
-            plans: 0,
-            scheduled: 0,
-            crossed: 0,
-            cycles: 0,
-            large_scheduled: 0,
-            large_barred: 0,
-            most_rounds: 0,
-            refused: 0,
-            crowded: 0,
-        }
-    }
-
     // A plan, and what solving it answered.
     pub fn add(&mut self, book: &Book, answer: Answer) {
         let large = u32::from(book.events.len() >= LARGE);
@@ -41,22 +27,26 @@ impl Tally {
         self.refused = self.refused.saturating_add(book.refused);
         self.crowded = self.crowded.saturating_add(book.crowded);
         match answer {
-            Answer::Fine(rounds) => {
+            Ok(rounds) => {
                 self.scheduled = self.scheduled.saturating_add(1);
                 self.large_scheduled = self.large_scheduled.saturating_add(large);
                 self.most_rounds = self.most_rounds.max(u32::from(rounds));
             }
-            Answer::Barred(_, cause) => {
-                let cycle = u32::from(cause == 2);
-                self.cycles = self.cycles.saturating_add(cycle);
-                self.crossed = self.crossed.saturating_add(1u32.saturating_sub(cycle));
+            Err(Fault::Barred(_, cause)) => {
+                let barred = match cause {
+                    2 => &mut self.cycles,
+                    _ => &mut self.crossed,
+                };
+                *barred = barred.saturating_add(1);
                 self.large_barred = self.large_barred.saturating_add(large);
             }
-            _ => {}
+            Err(_) => {}
         }
     }
+}
 
-    pub fn show(&self, rt: &HostRuntime) -> io::Result<()> {
+impl fmt::Display for Tally {
+    fn fmt<W: fmt::Write>(&self, f: &mut fmt::Formatter<W>) -> fmt::Result {
         let lines = [
             ("random plans", self.plans),
             ("with a schedule", self.scheduled),
@@ -72,8 +62,8 @@ impl Tally {
             ("of these for too many views", self.crowded),
         ];
         for (words, count) in lines {
-            println!(rt; "{words}: {count}")?;
+            writeln!(f, "{words}: {count}")?;
         }
-        println!(rt; "no difference")
+        Ok(())
     }
 }

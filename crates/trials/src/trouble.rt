@@ -10,6 +10,7 @@ pub enum Trouble {
     Differs(&'static str),
 }
 
+// Kept: From by hand. A derived one (tried) holds the io::Error, whose text takes one more C function on trust.
 impl From<AllocError> for Trouble {
     fn from(_e: AllocError) -> Trouble {
         Trouble::Memory
@@ -19,5 +20,14 @@ impl From<AllocError> for Trouble {
 impl From<io::Error> for Trouble {
     fn from(_e: io::Error) -> Trouble {
         Trouble::Output
+    }
+}
+
+// The words say what ought to hold, or what differs where it does not.
+pub fn ensure(holds: bool, words: &'static str) -> Result<(), Trouble> {
+    if holds {
+        Ok(())
+    } else {
+        Err(Trouble::Differs(words))
     }
 }
