@@ -3,6 +3,8 @@ use Rattle.std.proofs.Common.{◌≡◌, ℕ, zero, suc, ◌+◌, ◌-◌, ◌*�
 use Rattle.std.specs.List.{Contains}
 use Rattle.std.proofs.lemmas.List.Elements.{All-contains, All-from_recursion, recursion_from_All, Contains-get_or}
 use Rattle.std.proofs.lemmas.Bool.{cases_lt}
+use Rattle.std.proofs.lemmas.Grind.{common_steps}
+use Rattle.std.proofs.lemmas.Int.{ints}
 use Rattle.bounds.specs.Sides.{Side}
 use Rattle.bounds.specs.declared.bar.Bar.{Bar}
 use Rattle.bounds.specs.declared.end.Ends.{Ends}
@@ -13,8 +15,6 @@ use Rattle.network.specs.Lineage.{minutes, Covered, Relaxed, Backed}
 use Rattle.network.specs.Decided.{Exact, Decided}
 use Rattle.network.proofs.Held.{round, backed_at_start, covered_at_start, settled_exact}
 use Rattle.network.proofs.Sweeps.{Fed, Sweeps, sweep_keeps}
-use Rattle.std.proofs.lemmas.Grind.{common_steps}
-use Rattle.std.proofs.lemmas.Int.{ints}
 
 -- so many rounds are done: walks of as many links are covered
 pub record Underway (N : Net) (done : ℕ) (table : List Ends) : Type 0 where

@@ -4,9 +4,9 @@ use Rattle.std.specs.List.{position, position_or_len}
 use Rattle.std.proofs.lemmas.List.{at_drop_all}
 use Rattle.std.proofs.lemmas.List.Sums.{fails_before_first, passes_at_first}
 use Rattle.std.proofs.lemmas.Bool.{not-true, not-false, cond-true, cond-false, lt-ltb, le-ltb, cases_lt}
-use Rattle.network.specs.Checks.{first_failing}
 use Rattle.std.proofs.lemmas.Grind.{common_steps}
 use Rattle.std.proofs.lemmas.Int.{ints}
+use Rattle.network.specs.Checks.{first_failing}
 
 module _ {A : Type 0} (test : ℕ → A → Bool) where
   pub first_on : (xs : List A) (i : ℕ) (d : A) → i < length xs → test i (get_or xs i d) ≡ true → first_failing test (i + 1) (drop (i + 1) xs) ≡ first_failing test i (drop i xs)

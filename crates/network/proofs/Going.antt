@@ -1,14 +1,14 @@
 -- The central rounds while they run: what is left of them still comes to the answer.
 use Rattle.std.proofs.Common.{◌≡◌, ℕ, suc, ◌+◌, ◌-◌, ◌<◌, ◌≤◌, eqb, List, map, Some, None, Option, sym, refl, ap, ◌∙◌, subst, arith}
 use Rattle.std.proofs.lemmas.Bool.{ne_eqb, cond-false}
+use Rattle.std.proofs.lemmas.Grind.{common_steps}
+use Rattle.std.proofs.lemmas.Int.{ints}
 use Rattle.bounds.specs.declared.bar.Bar.{Bar}
 use Rattle.bounds.specs.declared.end.Ends.{Ends}
 use Rattle.network.specs.Nets.{Net, count, Sound}
 use Rattle.network.specs.Rounds.{Sweep, sweep, begun, Answer, after, rounds, given_ends, central}
 use Rattle.network.specs.declared.tables.Rule.{Rule}
 use Rattle.network.proofs.Central.{Underway, underway_start, underway_next}
-use Rattle.std.proofs.lemmas.Grind.{common_steps}
-use Rattle.std.proofs.lemmas.Int.{ints}
 
 -- the round with this number is to be run
 pub record Going (N : Net) (number : ℕ) (table : List Ends) : Type 0 where

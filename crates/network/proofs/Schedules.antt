@@ -7,6 +7,7 @@ use Rattle.std.proofs.lemmas.List.{get_or_default}
 use Rattle.std.proofs.lemmas.Int.{ints}
 use Rattle.std.proofs.lemmas.List.Elements.{Contains-get_or}
 use Rattle.std.proofs.lemmas.Bool.{false≢true, and_parts, and_from, leb-true, le-leb, cond-true, cond-false, cases_Bool}
+use Rattle.std.proofs.lemmas.Grind.{common_steps}
 use Rattle.bounds.specs.Sides.{Meets, minute}
 use Rattle.bounds.specs.declared.fault.PlanFault.{PlanFault}
 use Rattle.bounds.specs.declared.fault.PlanFault.TheVariants.{TooFewPlaces, OutsideWindow}
@@ -15,7 +16,6 @@ use Rattle.network.specs.Checks.{first_failing, has_minute, in_window, kept, rul
 use Rattle.network.specs.declared.tables.Event.{Event}
 use Rattle.network.specs.declared.tables.Rule.{Rule}
 use Rattle.network.proofs.Firsts.{first_position, none_fails, all_pass}
-use Rattle.std.proofs.lemmas.Grind.{common_steps}
 
 -- what stands where no rule has the number
 abbrev no_rule : Rule

@@ -1,5 +1,7 @@
 -- From what the rounds decide to what the central call promises.
 use Rattle.std.proofs.Common.{◌≡◌, ℕ, ◌<◌, ◌≤◌, ◌↔◌, List, ◌++◌, map, length, Some, None, Err, Option, sym, refl, ap, subst, arith}
+use Rattle.std.proofs.lemmas.Grind.{common_steps}
+use Rattle.std.proofs.lemmas.Int.{ints}
 use Rattle.bounds.specs.Sides.{Meets, minute}
 use Rattle.bounds.specs.declared.bar.Bar.{Bar}
 use Rattle.bounds.specs.declared.end.Ends.{Ends}
@@ -9,8 +11,6 @@ use Rattle.network.specs.Rounds.{held, Answer}
 use Rattle.network.specs.Decided.{Exact}
 use Rattle.network.specs.Solved.{window_of, told, filled, window, Windows}
 use Rattle.network.specs.declared.tables.Window.{Window}
-use Rattle.std.proofs.lemmas.Grind.{common_steps}
-use Rattle.std.proofs.lemmas.Int.{ints}
 
 -- ---- a bar
 

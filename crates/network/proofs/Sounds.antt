@@ -1,6 +1,8 @@
 -- The rows of a draft make a sound network.
-use Rattle.std.proofs.Common.{◌≡◌, ℕ, ◌<◌, true, List, length, subst}
+use Rattle.std.proofs.Common.{◌≡◌, ℕ, ◌<◌, true, List, length, subst, arith}
 use Rattle.std.proofs.lemmas.Bool.{and_parts, leb-true}
+use Rattle.std.proofs.lemmas.Grind.{common_steps}
+use Rattle.std.proofs.lemmas.Int.{ints}
 use Rattle.bounds.specs.declared.gap.Way.TheVariants.{Ahead}
 use Rattle.network.specs.Nets.{event, Sound}
 use Rattle.network.specs.Drafts.{net}
@@ -9,9 +11,6 @@ use Rattle.network.specs.declared.draft.Draft.{Draft}
 use Rattle.network.specs.declared.tables.Event.{Event}
 use Rattle.network.specs.declared.tables.Rule.{Rule}
 use Rattle.network.proofs.Steps.{joined_inside}
-use Rattle.std.proofs.lemmas.Grind.{common_steps}
-use Rattle.std.proofs.lemmas.Int.{ints}
-use Rattle.std.proofs.Common.{arith}
 
 pub rows_sound : (es : List Event) (rs : List Rule) → Pass placed es → Pass (joins (length es)) rs → Sound (record { events = es; rules = rs })
 rows_sound es rs placed_all joined_all =

@@ -1,6 +1,8 @@
 -- How the code of a round reads the table, and what it may count on.
 use Rattle.std.proofs.Common.{◌≡◌, ℕ, ◌+◌, ◌<◌, ◌≤◌, true, List, [], ◌∷◌, length, get_or, drop, Some, None, Ok, Err, Option, ap, ◌∙◌, arith}
 use Rattle.std.proofs.lemmas.List.{at_drop_more}
+use Rattle.std.proofs.lemmas.Grind.{common_steps}
+use Rattle.std.proofs.lemmas.Int.{ints}
 use Rattle.bounds.specs.Sides.{Side, earliest, latest, other}
 use Rattle.bounds.specs.Ends.{end_of, carried}
 use Rattle.bounds.specs.Narrowed.{Narrowing, narrowed}
@@ -16,8 +18,6 @@ use Rattle.network.specs.Rounds.{held, Sweep, step, sweep}
 use Rattle.network.specs.Rows.{joins}
 use Rattle.network.specs.declared.revise.Revision.{Revision}
 use Rattle.network.specs.declared.tables.Rule.{Rule}
-use Rattle.std.proofs.lemmas.Grind.{common_steps}
-use Rattle.std.proofs.lemmas.Int.{ints}
 
 -- both events of a rule that joins are in the table
 pub joined_inside : (n : ℕ) (r : Rule) (w : Way) → joins n r ≡ true → (leaves r w < n) × (enters r w < n)

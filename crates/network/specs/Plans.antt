@@ -82,9 +82,10 @@ needed P r = cond (room_of P.events r.from == room_of P.events r.to) None (Some 
 -- the views, with those that the rule needs
 abbrev pub with_views : Plan → Rule → List View
 with_views P r =
-    cond (room_of P.events r.from == room_of P.events r.to)
-    P.views
-    (with_view (with_view P.views r.from (room_of P.events r.to)) r.to (room_of P.events r.from))
+    elim (needed P r) [
+      | None ↦ P.views
+      | Some vs ↦ with_view (with_view P.views vs.0.event vs.0.room) vs.1.event vs.1.room
+    ]
 
 abbrev pub rule_questions : Plan → Rule → List Question
 rule_questions P r =
