@@ -123,7 +123,14 @@ impl Draft {
     fn missing(&self, view: View) -> usize
         ensures { result ≡ (if shows (plan self.now).views view.event view.room then 0 else 1) }
     {
-        usize::from(!self.views().contains(&view))
+        usize::from(!self.shows(view))
+    }
+
+    // Whether the view is there. (By `any`: the library's `contains` looks at groups of rows, which took twice the time.)
+    fn shows(&self, view: View) -> bool
+        ensures { result ≡ shows (plan self.now).views view.event view.room }
+    {
+        self.views().iter().any(|shown| *shown == view)
     }
 
     // Enters a rule that passes all questions.
@@ -152,7 +159,7 @@ impl Draft {
         requires fits { length (with_view (plan self.old).views view.event view.room) ≤ 64 }
         ensures { plan self.new ≡ viewing (plan self.old) (with_view (plan self.old).views view.event view.room) }
     {
-        if !self.views().contains(&view) {
+        if !self.shows(view) {
             self.views.push(view);
         }
     }
