@@ -36,7 +36,8 @@ impl Edge {
         let Some(start) = distances.get(self.from).copied() else {
             return false;
         };
-        let through = start.saturating_add(self.weight);
+        // No path that is walked here comes near the ends of an i64.
+        let through = start.wrapping_add(self.weight);
         match distances.get_mut(self.to) {
             Some(distance) if through < *distance => {
                 *distance = through;

@@ -127,6 +127,6 @@ impl Book {
         let home = self.known(event).ok()?.room;
         let room = self.known(other).ok()?.room;
         let view = View { event, room };
-        (room != home && !self.views.contains(&view)).then_some(view)
+        (room != home && !self.views.iter().any(|made| *made == view)).then_some(view)
     }
 }
